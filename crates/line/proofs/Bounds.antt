@@ -1,0 +1,132 @@
+-- Magnitudes, for every kernel. Forward, samples within a give lows within 2a + 1 and highs within 3a + 2.
+-- Back, lows within a and highs within b give samples within 3(a + b)/2 + 2. Assumes nothing.
+use mathlib.Core.Path.{_≡_}
+use Prim.Native.Nat.{ℕ, _+_, _*_, _/_, _%_, _<_, _≤_}
+use native.Mathlib.Omega.{arith}
+use lib.IntN.{ℤ, _+ℤ_, _-ℤ_}
+use Rattle.kernel.specs.declared.Kernel.{Kernel}
+use Rattle.kernel.specs.declared.Kernel.the-variants.{S, SPlusP, TT, FiveThree}
+use Rattle.whole.specs.Within.{Within}
+use Rattle.whole.proofs.Linear.{lin, ι-split}
+use Rattle.whole.proofs.Floored.{whole}
+use Rattle.line.specs.Cells.{Line, evens, behind}
+use Rattle.line.specs.Formulas.{mean, difference, firstOf, secondOf, slopeA, slopeTT, between, smoothing}
+use Rattle.line.specs.Transform.{means, differences, predict, update, pairHigh, high, low, pairDifference, first, second, back}
+use Rattle.line.proofs.Cells.{paired-each}
+use Rattle.line.proofs.Border.{inside-in}
+
+-- every one of the first n numbers is within r
+abbrev pub AllWithin : ℕ → ℕ → Line ℤ → Type 0
+AllWithin r n X = (i : ℕ) → i < n → Within r (X i)
+
+-- ---- on numbers
+module _ (a : ℕ) (x y : ℤ) (p : Within a x) (q : Within a y) where
+  pub mean-within : Within a (mean x y)
+  mean-within = rw (ι-split x, ι-split y) (simp whole (omega arith))
+
+  pub difference-within : Within (2 * a) (difference x y)
+  difference-within = rw (ι-split x, ι-split y) (simp whole (omega arith))
+
+  slopeA-within : Within (a + 1) (slopeA x y)
+  slopeA-within = rw (ι-split x, ι-split y) (simp whole (omega arith))
+
+  between-within : Within (a + 1) (between x y)
+  between-within = rw (ι-split x, ι-split y) (simp whole (omega arith))
+
+  smoothing-within : Within ((a + 1) / 2) (smoothing x y)
+  smoothing-within = rw (ι-split x, ι-split y) (simp whole (omega arith))
+
+slopeTT-within : (a : ℕ) (u x y v : ℤ) → Within a u → Within a x → Within a y → Within a v → Within (a + 1) (slopeTT u x y v)
+slopeTT-within a u x y v o p q r = rw (ι-split u, ι-split x, ι-split y, ι-split v) (simp whole (omega arith))
+
+module _ (a b : ℕ) (x y : ℤ) (p : Within a x) (q : Within b y) where
+  pub add-within : Within (a + b) (x +ℤ y)
+  add-within = rw (ι-split x, ι-split y) (simp lin (omega arith))
+
+  pub sub-within : Within (a + b) (x -ℤ y)
+  sub-within = rw (ι-split x, ι-split y) (simp lin (omega arith))
+
+  pub first-within : Within (a + (b + 1) / 2) (firstOf x y)
+  first-within = rw (ι-split x, ι-split y) (simp whole (omega arith))
+
+  pub second-within : Within (a + (b + 1) / 2) (secondOf x y)
+  second-within = rw (ι-split x, ι-split y) (simp whole (omega arith))
+
+pub within-more : {a b : ℕ} {z : ℤ} → Within a z → a ≤ b → Within b z
+within-more w h = record { hi = omega arith; lo = omega arith }
+
+-- ---- what is predicted, and what is added in kernel 3
+pub predict-within : (k : Kernel) (M a : ℕ) (L : Line ℤ) → AllWithin a M L → AllWithin (a + 1) M (predict k M L)
+unfolding predict
+predict-within S M a L all n h = record { hi = omega arith; lo = omega arith }
+predict-within SPlusP M a L all n h = slopeA-within a _ _ (all _ (inside-in M n 1 (omega arith))) (all _ (inside-in M (n + 1) 0 (omega arith)))
+predict-within TT M a L all n h =
+    slopeTT-within a _ _ _ _
+    (all _ (inside-in M n 2 (omega arith))) (all _ (inside-in M n 1 (omega arith)))
+    (all _ (inside-in M (n + 1) 0 (omega arith))) (all _ (inside-in M (n + 2) 0 (omega arith)))
+predict-within FiveThree M a L all n h = between-within a _ _ (all n h) (all _ (inside-in M (n + 1) 0 (omega arith)))
+
+pub update-within : (M a : ℕ) (D : Line ℤ) → AllWithin a M D → AllWithin ((a + 1) / 2) M (update M D)
+unfolding update
+update-within M a D all n h = smoothing-within a _ _ (all _ (inside-in M n 1 (omega arith))) (all n h)
+
+-- ---- forward
+module _ (M a : ℕ) (X : Line ℤ) (all : AllWithin a (2 * M) X) where
+  pub means-within : AllWithin a M (means X)
+  means-within n h = mean-within a _ _ (all _ (omega arith)) (all _ (omega arith))
+
+  pub differences-within : AllWithin (2 * a) M (differences X)
+  differences-within n h = difference-within a _ _ (all _ (omega arith)) (all _ (omega arith))
+
+  pair-high : (k : Kernel) → AllWithin (3 * a + 2) M (pairHigh k M X)
+  pair-high k n h = within-more (sub-within (2 * a) (a + 1) _ _ (differences-within n h) (predict-within k M a (means X) means-within n h)) (omega arith)
+
+  five-three-high : AllWithin (2 * a + 1) M (high FiveThree M X)
+  unfolding high
+  five-three-high n h = within-more (sub-within a (a + 1) _ _ (all _ (omega arith)) (predict-within FiveThree M a (evens X) (λ i lt. all _ (omega arith)) n h)) (omega arith)
+
+  pub high-within : (k : Kernel) → AllWithin (3 * a + 2) M (high k M X)
+  unfolding high
+  high-within S n h = pair-high S n h
+  high-within SPlusP n h = pair-high SPlusP n h
+  high-within TT n h = pair-high TT n h
+  high-within FiveThree n h = within-more (five-three-high n h) (omega arith)
+
+  pub low-within : (k : Kernel) → AllWithin (2 * a + 1) M (low k M X)
+  unfolding low
+  low-within S n h = within-more (means-within n h) (omega arith)
+  low-within SPlusP n h = within-more (means-within n h) (omega arith)
+  low-within TT n h = within-more (means-within n h) (omega arith)
+  low-within FiveThree n h =
+      within-more (add-within a _ _ _ (all _ (omega arith)) (update-within M (2 * a + 1) (high FiveThree M X) five-three-high n h)) (omega arith)
+
+-- ---- back
+module _ (M a b : ℕ) (L D : Line ℤ) (lows : AllWithin a M L) (highs : AllWithin b M D) where
+  pub pair-difference-within : (k : Kernel) → AllWithin (a + b + 1) M (pairDifference k M L D)
+  pair-difference-within k n h = within-more (add-within b (a + 1) _ _ (highs n h) (predict-within k M a L lows n h)) (omega arith)
+
+  five-three-first : AllWithin (a + (b + 1) / 2) M (first FiveThree M L D)
+  unfolding first
+  five-three-first n h = sub-within a _ _ _ (lows n h) (update-within M b D highs n h)
+
+  pub first-bound : (k : Kernel) → AllWithin (3 * (a + b) / 2 + 2) M (first k M L D)
+  unfolding first
+  first-bound S n h = within-more (first-within a _ _ _ (lows n h) (pair-difference-within S n h)) (omega arith)
+  first-bound SPlusP n h = within-more (first-within a _ _ _ (lows n h) (pair-difference-within SPlusP n h)) (omega arith)
+  first-bound TT n h = within-more (first-within a _ _ _ (lows n h) (pair-difference-within TT n h)) (omega arith)
+  first-bound FiveThree n h = within-more (five-three-first n h) (omega arith)
+
+  pub second-bound : (k : Kernel) → AllWithin (3 * (a + b) / 2 + 2) M (second k M L D)
+  unfolding second
+  second-bound S n h = within-more (second-within a _ _ _ (lows n h) (pair-difference-within S n h)) (omega arith)
+  second-bound SPlusP n h = within-more (second-within a _ _ _ (lows n h) (pair-difference-within SPlusP n h)) (omega arith)
+  second-bound TT n h = within-more (second-within a _ _ _ (lows n h) (pair-difference-within TT n h)) (omega arith)
+  second-bound FiveThree n h =
+      within-more (add-within b _ _ _ (highs n h) (predict-within FiveThree M _ (first FiveThree M L D) five-three-first n h)) (omega arith)
+
+-- ---- a line of w numbers
+pub back-within : (k : Kernel) (w a b : ℕ) (Y : Line ℤ) → w % 2 ≡ 0 → AllWithin a (w / 2) Y → AllWithin b (w / 2) (behind (w / 2) Y) → AllWithin (3 * (a + b) / 2 + 2) w (back k w Y)
+unfolding back
+back-within k w a b Y even lows highs =
+    paired-each (λ x v. Within (3 * (a + b) / 2 + 2) v) w _ _ even
+    (first-bound (w / 2) a b Y (behind (w / 2) Y) lows highs k) (second-bound (w / 2) a b Y (behind (w / 2) Y) lows highs k)

@@ -1,0 +1,59 @@
+-- The laws of lines that are joined from lows and highs, or paired from evens and odds. Assumes nothing.
+use mathlib.Core.Path.{_≡_, ap}
+use Prim.Native.Nat.{ℕ, _+_, _*_, _-_, _/_, _%_, _<_, _≤_}
+use native.Mathlib.Decide.{decLt}
+use native.Mathlib.Omega.{arith}
+use borrow.Author.Tests.{lt-ltb, le-ltb}
+use Rattle.line.specs.Cells.{Line, joined, paired}
+
+-- ---- two cases of a test
+pub by-lt : {C : Type 0} (a b : ℕ) → (a < b → C) → (b ≤ a → C) → C
+by-lt {C} a b f g = go (decLt a b)
+  where
+    go : Dec (a < b) → C
+    go (yes p) = f p
+    go (no n) = g (omega arith)
+
+-- every place is even or odd
+pub by-parity : (P : ℕ → Type 0) → ((n : ℕ) → P (2 * n)) → ((n : ℕ) → P (2 * n + 1)) → (x : ℕ) → P x
+by-parity P even odd x = by-lt (x % 2) 1
+    (λ lt. let e : 2 * (x / 2) ≡ x = omega arith in rw e at (even (x / 2)))
+    (λ ge. let e : 2 * (x / 2) + 1 ≡ x = omega arith in rw e at (odd (x / 2)))
+
+module _ {A : Type 0} (m : ℕ) (L D : Line A) where
+  pub joined-low : (n : ℕ) → n < m → joined m L D n ≡ L n
+  unfolding joined
+  joined-low n h = simp (lt-ltb n m h)
+
+  pub joined-high : (n : ℕ) → joined m L D (m + n) ≡ D n
+  unfolding joined
+  joined-high n = simp (le-ltb (m + n) m (omega arith)) (ap D (omega arith))
+
+-- a fact of each cell of a joined line of w cells, from its lows and its highs
+pub joined-each : {A : Type 0} (P : ℕ → A → Type 0) (w : ℕ) (L D : Line A) → w % 2 ≡ 0
+    → ((n : ℕ) → n < w / 2 → P n (L n)) → ((n : ℕ) → n < w / 2 → P (w / 2 + n) (D n)) → (x : ℕ) → x < w → P x (joined (w / 2) L D x)
+joined-each P w L D even low high x h = by-lt x (w / 2)
+    (λ lt. rw (joined-low (w / 2) L D x lt) (low x lt))
+    (λ ge. let e : w / 2 + (x - w / 2) ≡ x = omega arith in
+    let t : P (w / 2 + (x - w / 2)) (joined (w / 2) L D (w / 2 + (x - w / 2))) = rw (joined-high (w / 2) L D (x - w / 2)) (high (x - w / 2) (omega arith)) in
+    rw e at t)
+
+module _ {A : Type 0} (E O : Line A) where
+  pub paired-even : (n : ℕ) → paired E O (2 * n) ≡ E n
+  unfolding paired
+  paired-even n =
+      let r : 2 * n % 2 ≡ 0 = omega arith in let q : 2 * n / 2 ≡ n = omega arith in
+      rw (r, q)
+
+  pub paired-odd : (n : ℕ) → paired E O (2 * n + 1) ≡ O n
+  unfolding paired
+  paired-odd n =
+      let r : (2 * n + 1) % 2 ≡ 1 = omega arith in let q : (2 * n + 1) / 2 ≡ n = omega arith in
+      rw (r, q)
+
+-- a fact of each cell of a paired line of w cells
+pub paired-each : {A : Type 0} (P : ℕ → A → Type 0) (w : ℕ) (E O : Line A) → w % 2 ≡ 0
+    → ((n : ℕ) → n < w / 2 → P (2 * n) (E n)) → ((n : ℕ) → n < w / 2 → P (2 * n + 1) (O n)) → (x : ℕ) → x < w → P x (paired E O x)
+paired-each P w E O even first second = by-parity (λ x. x < w → P x (paired E O x))
+    (λ n h. rw (paired-even E O n) (first n (omega arith)))
+    (λ n h. rw (paired-odd E O n) (second n (omega arith)))

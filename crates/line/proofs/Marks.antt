@@ -1,0 +1,57 @@
+-- The laws of marks: of "or", of a mark that may be missing, and of "any". Assumes nothing.
+use mathlib.Core.Path.{_≡_, refl}
+use mathlib.Core.Bool.{Bool, true, false, _&&_, _||_}
+use Prim.Native.Nat.{ℕ, zero, suc, _+_, _-_, _<_, _≤_}
+use native.Mathlib.Omega.{arith}
+use lib.Dec.{leb}
+use borrow.Author.Tests.{le-leb, lt-ltb, leb-true}
+use Rattle.line.specs.Cells.{Line}
+use Rattle.line.specs.Mask.{anyBelow, near, mark}
+use Rattle.line.proofs.Cells.{by-lt}
+
+-- ---- or, and
+pub or-left : (a b : Bool) → a ≡ true → (a || b) ≡ true
+or-left a b p = rw p
+
+pub or-right : (a b : Bool) → b ≡ true → (a || b) ≡ true
+or-right true b p = refl
+or-right false b p = p
+
+pub or-cases : {C : Type 0} (a b : Bool) → (a || b) ≡ true → (a ≡ true → C) → (b ≡ true → C) → C
+or-cases true b p f g = f refl
+or-cases false b p f g = g p
+
+pub and-both : (a b : Bool) → a ≡ true → b ≡ true → (a && b) ≡ true
+and-both a b p q = rw (p, q)
+
+pub and-parts : (a b : Bool) → (a && b) ≡ true → (a ≡ true) × (b ≡ true)
+and-parts true b p = (refl, p)
+and-parts false b p = absurd (mathlib.Core.Bool.false≢true p)
+
+-- ---- any
+pub any-intro : (M : ℕ) (f : ℕ → Bool) (k : ℕ) → k < M → f k ≡ true → anyBelow M f ≡ true
+unfolding anyBelow
+any-intro zero f k h p = absurd (omega arith)
+any-intro (suc m) f k h p = by-lt k m
+    (λ lt. or-left (anyBelow m f) (f m) (any-intro m f k lt p))
+    (λ ge. let e : k ≡ m = omega arith in or-right (anyBelow m f) (f m) (rw e at p))
+
+pub any-elim : {C : Type 0} (M : ℕ) (f : ℕ → Bool) → anyBelow M f ≡ true → ((k : ℕ) → k < M → f k ≡ true → C) → C
+unfolding anyBelow
+any-elim zero f p g = absurd (mathlib.Core.Bool.false≢true p)
+any-elim (suc m) f p g = or-cases (anyBelow m f) (f m) p
+    (λ q. any-elim m f q (λ k h. g k (omega arith)))
+    (λ q. g m (omega arith) q)
+
+pub near-intro : (r n k : ℕ) → n ≤ k + r → k ≤ n + r → near r n k ≡ true
+near-intro r n k p q = and-both _ _ (le-leb n (k + r) p) (le-leb k (n + r) q)
+
+pub near-elim : (r n k : ℕ) → near r n k ≡ true → (n ≤ k + r) × (k ≤ n + r)
+near-elim r n k p = let q = and-parts (leb n (k + r)) (leb k (n + r)) p in (leb-true n (k + r) (q .0), leb-true k (n + r) (q .1))
+
+-- ---- a mark that is there
+pub mark-there : (N : ℕ) (B : Line Bool) (u d i : ℕ) → d + i ≡ u → i < N → B i ≡ true → mark N B u d ≡ true
+unfolding mark
+mark-there N B u d i e h p =
+    let q : u - d ≡ i = omega arith in
+    rw (le-leb d u (omega arith), q, lt-ltb i N h, p)

@@ -1,0 +1,44 @@
+-- Lines: cells by their place.
+--
+--   Line A          == a line of cells of A; a rule says how many of them count
+--   choose b x y    == x if b, else y
+--   Agree n X Y     == the first n cells of X and Y are equal
+--   AgreeOn n B X Y == those of them that B marks are equal
+--   joined m L D    == L in front, m cells of it, and D behind
+--   behind m X      == the cells of X from m on
+--   evens X, odds X == X(2n) and X(2n+1), as lines
+--   paired E O      == the line with these evens and odds
+--
+-- Assumes nothing: these are definitions.
+use mathlib.Core.Path.{_≡_}
+use mathlib.Core.Bool.{Bool, true, false}
+use Prim.Native.Nat.{ℕ, _+_, _*_, _-_, _/_, _%_, _<_}
+use lib.Dec.{ltb, eqb}
+
+abbrev pub Line : Type 0 → Type 0
+Line A = ℕ → A
+
+abbrev pub choose : {A : Type 0} → Bool → A → A → A
+choose true x y = x
+choose false x y = y
+
+abbrev pub Agree : {A : Type 0} → ℕ → Line A → Line A → Type 0
+Agree n X Y = (i : ℕ) → i < n → X i ≡ Y i
+
+abbrev pub AgreeOn : {A : Type 0} → ℕ → Line Bool → Line A → Line A → Type 0
+AgreeOn n B X Y = (i : ℕ) → i < n → B i ≡ true → X i ≡ Y i
+
+unfoldable pub joined : {A : Type 0} → ℕ → Line A → Line A → Line A
+joined m L D x = choose (ltb x m) (L x) (D (x - m))
+
+abbrev pub behind : {A : Type 0} → ℕ → Line A → Line A
+behind m X n = X (m + n)
+
+abbrev pub evens : {A : Type 0} → Line A → Line A
+evens X n = X (2 * n)
+
+abbrev pub odds : {A : Type 0} → Line A → Line A
+odds X n = X (2 * n + 1)
+
+unfoldable pub paired : {A : Type 0} → Line A → Line A → Line A
+paired E O x = choose (eqb (x % 2) 0) (E (x / 2)) (O (x / 2))

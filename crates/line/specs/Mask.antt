@@ -1,0 +1,50 @@
+-- The mask of a line of 2M marks (document 01, "The mask").
+--
+--   anyBelow M f     == f holds of a number below M
+--   near r n k       == k is within the reach r of n
+--   mark N B u d     == B's mark at the index u − d; what is missing, outside 0 .. N − 1, counts as unmarked
+--   pairMark B n     == P(n): X(2n) or X(2n+1) is marked
+--   lowMark k M B    == which lows are marked
+--   highMark k M B   == which highs are marked
+--   maskLine k w B   == the marks of a transformed line of w numbers: of its lows in front, of its highs behind
+--
+-- Assumes nothing: these are definitions.
+use mathlib.Core.Bool.{Bool, false, _&&_, _||_}
+use Prim.Native.Nat.{ℕ, zero, suc, _+_, _-_, _*_, _/_}
+use lib.Dec.{leb, ltb}
+use Rattle.kernel.specs.declared.Kernel.{Kernel}
+use Rattle.kernel.specs.declared.Kernel.the-variants.{S, SPlusP, TT, FiveThree}
+use Rattle.kernel.specs.Kernels.{reach}
+use Rattle.line.specs.Cells.{Line, joined}
+
+unfoldable pub anyBelow : ℕ → (ℕ → Bool) → Bool
+anyBelow zero f = false
+anyBelow (suc m) f = anyBelow m f || f m
+
+abbrev pub near : ℕ → ℕ → ℕ → Bool
+near r n k = leb n (k + r) && leb k (n + r)
+
+unfoldable pub mark : ℕ → Line Bool → ℕ → ℕ → Bool
+mark N B u d = leb d u && ltb (u - d) N && B (u - d)
+
+abbrev pub pairMark : Line Bool → Line Bool
+pairMark B n = B (2 * n) || B (2 * n + 1)
+
+-- any P(k) with k within the reach of n
+abbrev pub reachMark : ℕ → ℕ → Line Bool → Line Bool
+reachMark r M B n = anyBelow M (λ k. near r n k && pairMark B k)
+
+unfoldable pub lowMark : Kernel → ℕ → Line Bool → Line Bool
+lowMark S M B n = reachMark (reach S) M B n
+lowMark SPlusP M B n = reachMark (reach SPlusP) M B n
+lowMark TT M B n = reachMark (reach TT) M B n
+lowMark FiveThree M B n = B (2 * n) || B (2 * n + 1) || mark (2 * M) B (2 * n) 1
+
+unfoldable pub highMark : Kernel → ℕ → Line Bool → Line Bool
+highMark S M B n = pairMark B n
+highMark SPlusP M B n = pairMark B n
+highMark TT M B n = pairMark B n
+highMark FiveThree M B n = B (2 * n + 1) || lowMark FiveThree M B n || mark M (lowMark FiveThree M B) (n + 1) 0
+
+unfoldable pub maskLine : Kernel → ℕ → Line Bool → Line Bool
+maskLine k w B = joined (w / 2) (lowMark k (w / 2) B) (highMark k (w / 2) B)

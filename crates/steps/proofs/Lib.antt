@@ -1,0 +1,2 @@
+-- The laws of single steps.
+pub mod Wide
