@@ -2,6 +2,7 @@
 --
 --   S, SPlusP, TT, FiveThree == kernels 0 to 3: S, S+P (A), TT and the 5/3 of T.800
 --   kernelOf n == the kernel of number n, or a refusal
+--   theKernel n == that kernel, where there is one
 --   reach k    == the reach of kernel k, 0, 1, 2 and 1
 --
 -- Assumes nothing: these are definitions.
@@ -17,6 +18,13 @@ kernelOf (suc zero) = Taken SPlusP
 kernelOf (suc (suc zero)) = Taken TT
 kernelOf (suc (suc (suc zero))) = Taken FiveThree
 kernelOf (suc (suc (suc (suc n)))) = Refused
+
+abbrev pub taken : Choice → Kernel
+taken (Taken k) = k
+taken Refused = S
+
+abbrev pub theKernel : ℕ → Kernel
+theKernel n = taken (kernelOf n)
 
 abbrev pub reach : Kernel → ℕ
 reach S = 0

@@ -18,13 +18,13 @@ pub enum Choice {
 
 impl Kernel {
     // How many kernels there are: their numbers are below it.
-    pub const COUNT: u64 = 4;
+    pub const COUNT: usize = 4;
 
     // The reach of each kernel, by its number.
     pub const REACH: [usize; 4] = [0, 1, 2, 1];
 
     // The kernel of a number, any number.
-    pub fn new(number: u64) -> Choice
+    pub fn new(number: usize) -> Choice
         ensures { λ r. ⌜ r ≡ kernelOf number ⌝ }
     {
         if number >= Self::COUNT {

@@ -9,7 +9,7 @@ use lib.IntN.{ℤ}
 use lib.ListN.{length}
 use Rattle.whole.specs.Within.{Within}
 use Rattle.line.proofs.Cells.{by-lt}
-use Rattle.line.proofs.Bounds.{AllWithin}
+use Rattle.line.specs.Bounds.{AllWithin}
 use Rattle.runs.specs.Cells.{cell, Written}
 use Rattle.lifting.specs.Strip.{lane, Small, Strips, Rows}
 

@@ -18,7 +18,8 @@ use Rattle.line.specs.Transform.{means, differences, low, high, first, second}
 use Rattle.line.proofs.Cells.{paired-even, paired-odd}
 use Rattle.line.proofs.Back.{add-none, sub-none}
 use Rattle.line.proofs.Local.{predict-reach, update-local}
-use Rattle.line.proofs.Bounds.{AllWithin, mean-within, difference-within, add-within, sub-within, first-within, second-within, within-more, predict-within, update-within}
+use Rattle.line.specs.Bounds.{AllWithin}
+use Rattle.line.proofs.Bounds.{mean-within, difference-within, add-within, sub-within, first-within, second-within, within-more, predict-within, update-within}
 use Rattle.steps.specs.Moved.{moved}
 use Rattle.runs.specs.declared.Step.{Step}
 use Rattle.runs.specs.declared.Step.the-variants.{SPlusP, TT, High, Low}

@@ -1,7 +1,7 @@
 -- Magnitudes, for every kernel. Forward, samples within a give lows within 2a + 1 and highs within 3a + 2.
 -- Back, lows within a and highs within b give samples within 3(a + b)/2 + 2. Assumes nothing.
 use mathlib.Core.Path.{_≡_}
-use Prim.Native.Nat.{ℕ, _+_, _*_, _/_, _%_, _<_, _≤_}
+use Prim.Native.Nat.{ℕ, _+_, _*_, _/_, _%_, _≤_}
 use native.Mathlib.Omega.{arith}
 use lib.IntN.{ℤ, _+ℤ_, _-ℤ_}
 use Rattle.kernel.specs.declared.Kernel.{Kernel}
@@ -10,14 +10,11 @@ use Rattle.whole.specs.Within.{Within}
 use Rattle.whole.proofs.Linear.{lin, ι-split}
 use Rattle.whole.proofs.Floored.{whole}
 use Rattle.line.specs.Cells.{Line, evens, behind}
+use Rattle.line.specs.Bounds.{AllWithin}
 use Rattle.line.specs.Formulas.{mean, difference, firstOf, secondOf, slopeA, slopeTT, between, smoothing}
 use Rattle.line.specs.Transform.{means, differences, predict, update, pairHigh, high, low, pairDifference, first, second, back}
 use Rattle.line.proofs.Cells.{paired-each}
 use Rattle.line.proofs.Border.{inside-in}
-
--- every one of the first n numbers is within r
-abbrev pub AllWithin : ℕ → ℕ → Line ℤ → Type 0
-AllWithin r n X = (i : ℕ) → i < n → Within r (X i)
 
 -- ---- on numbers
 module _ (a : ℕ) (x y : ℤ) (p : Within a x) (q : Within a y) where

@@ -9,7 +9,7 @@ use lib.Dec.{T, ltb, leb, ltb→lt, nltb→le, le→leb, leb→le, lt→ltb, nle
 use lib.IntN.{ℤ, pos, negsuc, negℤ, subℕ, _+ℤ_, _-ℤ_, _*ℤ_, natAbs}
 use lib.Signed.{mag, _≤ℤ_, _<ℤ_, leZ, ltZ, nonNeg}
 use mir.Syntax.{Width, w32, w64}
-use mir.Val.{SFits, hbits, toZ, ofZ}
+use mir.Val.{Fits, SFits, hbits, toZ, ofZ}
 use mir.Facts.{toZ-ofZ}
 use borrow.Author.Needs.{sfits-of}
 use Rattle.whole.specs.Within.{up, dn, Within}
@@ -239,3 +239,7 @@ below-neg (negsuc a) h = ap pos (omega arith)
 
 pub within-eq : {n : ℕ} {x y : ℤ} → x ≡ y → Within n y → Within n x
 within-eq {n} e p = subst (Within n) (sym e) p
+
+pub natAbs-fits : (z : ℤ) → SFits w32 z → Fits w64 (natAbs z)
+natAbs-fits (pos n) f = omega (arith, f .sfits)
+natAbs-fits (negsuc n) f = omega (arith, f .sfits)

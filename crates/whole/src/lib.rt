@@ -1,5 +1,6 @@
-// Signed floor division by 2, 4 and 64, from the language's division, which rounds towards zero.
+// Signed floor division by 2, 4 and 64, from the language's division, which rounds towards zero; and magnitudes.
 ghost use mathlib.Core.Path.{_≡_};
+ghost use lib.IntN.{natAbs};
 ghost use Rattle.whole.specs.Floor.{floorDiv};
 
 pub fn floor2(x: i64) -> i64
@@ -18,4 +19,15 @@ pub fn floor64(x: i64) -> i64
     ensures { λ r. ⌜ r ≡ floorDiv x 64 ⌝ }
 {
     if x >= 0 { x / 64 } else { (x + 1) / 64 - 1 }
+}
+
+// The magnitude of a number.
+pub fn magnitude(x: i32) -> u64
+    ensures { λ r. ⌜ r ≡ natAbs x ⌝ }
+{
+    if x < 0 {
+        (0 - x as i64) as u64
+    } else {
+        x as u64
+    }
 }

@@ -5,8 +5,10 @@ use Rattle.whole.specs.Floor.{floorDiv}
 use Rattle.line.specs.Cells.{joined}
 use Rattle.line.specs.Transform.{inside, predict, update, high, low, forward}
 use Rattle.line.specs.Mask.{anyBelow, mark, lowMark, highMark, maskLine}
+use Rattle.grid.specs.Picture.{onLine, rowPass, walk}
+use Rattle.grid.specs.Buffer.{picture}
 use Rattle.worked.specs.Examples.{examples, made, stated}
 
 pub worked : map made examples ≡ map stated examples
-unfolding examples made stated floorDiv joined inside predict update high low forward anyBelow mark lowMark highMark maskLine
+unfolding examples made stated floorDiv joined inside predict update high low forward anyBelow mark lowMark highMark maskLine onLine rowPass walk picture
 worked = refl

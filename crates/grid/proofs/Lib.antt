@@ -1,0 +1,6 @@
+-- The laws of pictures, passes and levels.
+pub mod Passes
+pub mod Levels
+pub mod Outside
+pub mod Back
+pub mod Covered

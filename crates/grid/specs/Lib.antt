@@ -1,0 +1,3 @@
+-- What the contracts on pictures cite.
+pub mod Picture
+pub mod Buffer

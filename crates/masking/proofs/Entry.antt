@@ -1,0 +1,61 @@
+-- The entry: what its passed tests tell the walk, and what the walk leaves in the mask. Assumes nothing.
+use mathlib.Core.Path.{_≡_, sym, ap, _∙_, fun-ext}
+use mathlib.Core.Bool.{true, false}
+use mathlib.Core.List.{List}
+use Prim.Native.Nat.{ℕ, _*_, _/_, _%_, _≤_}
+use native.Mathlib.Nat.{mul-comm}
+use native.Mathlib.Omega.{arith}
+use lib.ListN.{length, getD, List·getD-eq-default}
+use Rattle.kernel.specs.declared.Kernel.{Kernel}
+use Rattle.kernel.specs.declared.Choice.the-variants.{Taken}
+use Rattle.kernel.specs.Kernels.{kernelOf, taken}
+use Rattle.line.proofs.Cells.{by-lt}
+use Rattle.marking.specs.Marks.{byteOf}
+use Rattle.grid.specs.Picture.{Picture, walk, Halves}
+use Rattle.grid.specs.Buffer.{picture}
+use Rattle.grid.proofs.Passes.{cell-of}
+use Rattle.grid.proofs.Levels.{halves-of}
+use Rattle.plane.specs.Plane.{maskOf}
+use Rattle.refusal.specs.Tests.{badSizeAt, badMark}
+use Rattle.refusal.specs.Results.{Result}
+use Rattle.refusal.proofs.Passed.{multiples, marks}
+use Rattle.masking.specs.Masks.{maskBytes, regionOf, maskByte}
+use Rattle.masking.specs.Areas.{Binary, Area}
+use Rattle.masking.proofs.Running.{picture-most}
+use Rattle.masking.proofs.Walks.{bytes, byte-of, walk-bytes}
+
+-- ---- the region
+pub region-binary : (l : List ℕ) → badMark l ≡ false → Binary l
+region-binary l e = record {
+  each = λ i. by-lt i (length l) (marks l e i) (λ ge. let z : getD l i 0 ≡ 0 = List·getD-eq-default l 0 ge in omega arith);
+}
+
+pub region-area : (J W H : ℕ) (l a b : List ℕ) → badSizeAt J W H ≡ false → length l ≡ W * H → badMark l ≡ false → 32768 ≤ length a → 32768 ≤ length b
+    → Area W W H l a b × Halves J W H
+region-area J W H l a b size full mark p q =
+    let s = multiples J W H size in (
+      record {
+        some-w = s .0 .width .0;
+        some-h = s .0 .height .0;
+        w-most = s .0 .width .1;
+        h-most = s .0 .height .1;
+        wide = omega arith;
+        fits = omega (arith, mul-comm W H);
+        a-room = p;
+        b-room = q;
+        marks = region-binary l mark;
+      },
+      halves-of J W H (s .1) (s .2),
+    )
+
+-- ---- the mask m′, in a buffer m
+pub mask-result : (n J W H : ℕ) (k : Kernel) (l m m′ : List ℕ) → Taken k ≡ kernelOf n → Binary l → length m ≡ W * H → length m′ ≡ length m
+    → picture 0 W m′ ≡ walk (maskBytes k) J W H (picture 0 W l) → Result 0 true (maskByte n J W H l) m m′
+mask-result n J W H k l m m′ chosen b full same e = record {
+  size = same;
+  cell = λ i h.
+      let r : picture 0 W l ≡ bytes (regionOf W l) = fun-ext λ y. fun-ext λ x. sym (byte-of (picture 0 W l y x) (picture-most W l b y x)) in
+      cell-of 0 W m′ H i (omega (arith, mul-comm W H))
+      ∙ ap (λ (P : Picture ℕ). P (i / W) (i % W)) (e ∙ ap (walk (maskBytes k) J W H) r ∙ walk-bytes k J W H (regionOf W l))
+      ∙ ap (λ (q : Kernel). byteOf (maskOf q J W H (regionOf W l) (i / W) (i % W))) (ap taken chosen);
+}

@@ -1,0 +1,167 @@
+-- The loops of the passes and their levels: what a strip of lines asks, what has been passed so far, and what the next level asks.
+--
+--   RowsPassed == the rows up to y are masked, all else is as it was
+--   ColsPassed == the columns up to x are
+--
+-- Assumes nothing.
+use mathlib.Core.Path.{_≡_, ap, subst, _∙_}
+use mathlib.Core.Bool.{Bool, true, false}
+use mathlib.Core.List.{List}
+use Prim.Native.Nat.{ℕ, _+_, _*_, _/_, _%_, _<_, _≤_}
+use native.Mathlib.Nat.{mul-le-mul-left, mul-le-mul-right, mul-one}
+use native.Mathlib.Omega.{arith}
+use lib.Arith.{digits-lt}
+use lib.Dec.{ltb}
+use lib.ListN.{length}
+use Rattle.kernel.specs.declared.Kernel.{Kernel}
+use Rattle.line.specs.Cells.{choose}
+use Rattle.line.specs.Mask.{maskLine}
+use Rattle.marking.specs.Marks.{byte, marked, byteOf}
+use Rattle.grid.specs.Picture.{Picture, onLine, rowPass, turned, colPass}
+use Rattle.grid.specs.Buffer.{picture, InBuffer, Lines}
+use Rattle.grid.proofs.Passes.{cell-of, row-more, col-more}
+use Rattle.masking.specs.Masks.{maskBytes}
+use Rattle.masking.specs.Areas.{Binary, Strips, Area}
+use Rattle.masking.proofs.Local.{bytes-local}
+
+-- ---- bytes that are marks, before a pass and after
+byte-most : (m : Bool) → byteOf m ≤ 1
+byte-most true = omega arith
+byte-most false = omega arith
+
+choose-most : (b : Bool) (m n : ℕ) → m ≤ 1 → n ≤ 1 → choose b m n ≤ 1
+choose-most true m n p q = p
+choose-most false m n p q = q
+
+pass-most : (k : Kernel) (w h : ℕ) (P : Picture ℕ) → ((y x : ℕ) → P y x ≤ 1) → (y x : ℕ) → rowPass (maskBytes k) w h P y x ≤ 1
+unfolding rowPass onLine
+pass-most k w h P all y x = choose-most (ltb y h) _ _ (choose-most (ltb x w) _ _ (byte-most (maskLine k w (λ i. marked (P y i)) x)) (all y x)) (all y x)
+
+pub picture-most : (W : ℕ) (l : List ℕ) → Binary l → (y x : ℕ) → picture 0 W l y x ≤ 1
+unfolding picture
+picture-most W l b y x = choose-most (ltb x W) _ _ (b .each (y * W + x)) (omega arith)
+
+binary-of : (W : ℕ) (l : List ℕ) (P : Picture ℕ) → 0 < W → picture 0 W l ≡ P → ((y x : ℕ) → P y x ≤ 1) → Binary l
+binary-of W l P some e all = record {
+  each = λ i.
+      let h : (i + 1) * 1 ≤ (i + 1) * W = mul-le-mul-left (i + 1) some in
+      let q : byte l i ≡ P (i / W) (i % W) = cell-of 0 W l (i + 1) i (omega (arith, mul-one (i + 1))) ∙ ap (λ (Q : Picture ℕ). Q (i / W) (i % W)) e in
+      rw q (all (i / W) (i % W));
+}
+
+-- ---- an area after a pass over h rows or w columns of it
+module _ {W w h : ℕ} {l a b : List ℕ} (l′ a′ b′ : List ℕ) (z : Area W w h l a b) (p : length l′ ≡ length l) (q : length a′ ≡ length a) (r : length b′ ≡ length b) where
+  area-same : Binary l′ → Area W w h l′ a′ b′
+  area-same marks = record {
+    some-w = z .some-w;
+    some-h = z .some-h;
+    w-most = z .w-most;
+    h-most = z .h-most;
+    wide = z .wide;
+    fits = rw p (z .fits);
+    a-room = rw q (z .a-room);
+    b-room = rw r (z .b-room);
+    marks = marks;
+  }
+
+  pub rows-area : (k : Kernel) (n : ℕ) → picture 0 W l′ ≡ rowPass (maskBytes k) w n (picture 0 W l) → Area W w h l′ a′ b′
+  rows-area k n e = area-same (binary-of W l′ _ (omega (arith, z .some-w, z .wide)) e (pass-most k w n _ (picture-most W l (z .marks))))
+
+  pub cols-area : (k : Kernel) (n : ℕ) → picture 0 W l′ ≡ colPass (maskBytes k) n h (picture 0 W l) → Area W w h l′ a′ b′
+  cols-area k n e =
+      area-same (binary-of W l′ _ (omega (arith, z .some-w, z .wide)) e
+      (λ y x. pass-most k h n (turned (picture 0 W l)) (λ v u. picture-most W l (z .marks) u v) x y))
+
+-- its low quarter
+pub area-low : {W w h : ℕ} {l a b : List ℕ} → Area W w h l a b → w % 2 ≡ 0 → h % 2 ≡ 0 → Area W (w / 2) (h / 2) l a b
+area-low {W} {w} {h} z p q = record {
+  some-w = omega (arith, z .some-w);
+  some-h = omega (arith, z .some-h);
+  w-most = omega (arith, z .w-most);
+  h-most = omega (arith, z .h-most);
+  wide = omega (arith, z .wide);
+  fits = let le : h / 2 * W ≤ h * W = mul-le-mul-right W (omega arith) in omega (arith, z .fits);
+  a-room = z .a-room;
+  b-room = z .b-room;
+  marks = z .marks;
+}
+
+-- ---- what a row and a strip of columns ask
+module _ {W w h : ℕ} {l a b : List ℕ} (z : Area W w h l a b) where
+  pub row-strips : w % 2 ≡ 0 → Strips (w / 2) 1 a b
+  row-strips even = record {
+    some = omega (arith, z .some-w);
+    evens = omega (arith, z .w-most, z .a-room);
+    odds = omega (arith, z .w-most, z .b-room);
+  }
+
+  pub row-places : (y : ℕ) → y < h → InBuffer l (y * W) 1 (2 * (w / 2)) 1
+  row-places y p = record {
+    some = omega arith;
+    apart = omega arith;
+    place = λ n j i r. omega (arith, digits-lt {q = y} {m = h} {r = n} {c = W} p (omega (arith, z .wide)), z .fits);
+  }
+
+  pub col-strips : h % 2 ≡ 0 → (c : ℕ) → c ≤ 16 → Strips (h / 2) c a b
+  col-strips even c le =
+      let m : h / 2 * c ≤ h / 2 * 16 = mul-le-mul-left (h / 2) le in record {
+        some = omega (arith, z .some-h);
+        evens = omega (arith, z .h-most, z .a-room);
+        odds = omega (arith, z .h-most, z .b-room);
+      }
+
+  pub col-places : (x c : ℕ) → 0 < c → x + c ≤ w → InBuffer l x W (2 * (h / 2)) c
+  col-places x c some le = record {
+    some = some;
+    apart = omega (arith, z .wide);
+    place = λ n j i r. omega (arith, digits-lt {q = n} {m = h} {r = x + j} {c = W} (omega arith) (omega (arith, z .wide)), z .fits);
+  }
+
+-- ---- what has been passed
+pub record RowsPassed (k : Kernel) (W w h y : ℕ) (l₀ a₀ b₀ l a b : List ℕ) : Type 0 where
+  pub count : y ≤ h
+  pub same-l : length l ≡ length l₀
+  pub same-a : length a ≡ length a₀
+  pub same-b : length b ≡ length b₀
+  pub passed : picture 0 W l ≡ rowPass (maskBytes k) w y (picture 0 W l₀)
+
+pub record ColsPassed (k : Kernel) (W w h x : ℕ) (l₀ a₀ b₀ l a b : List ℕ) : Type 0 where
+  pub count : x ≤ w
+  pub same-l : length l ≡ length l₀
+  pub same-a : length a ≡ length a₀
+  pub same-b : length b ≡ length b₀
+  pub passed : turned (picture 0 W l) ≡ rowPass (maskBytes k) h x (turned (picture 0 W l₀))
+
+module _ {k : Kernel} {W w h y : ℕ} {l₀ a₀ b₀ l a b : List ℕ} (z : Area W w h l₀ a₀ b₀) (p : RowsPassed k W w h y l₀ a₀ b₀ l a b) where
+  pub rows-now : Area W w h l a b
+  rows-now = rows-area l a b z (p .same-l) (p .same-a) (p .same-b) k y (p .passed)
+
+  pub rows-more : {l′ a′ b′ : List ℕ} → w % 2 ≡ 0 → y < h → Lines (maskBytes k) 0 (y * W) 1 (2 * (w / 2)) 1 l l′ → length a′ ≡ length a → length b′ ≡ length b
+      → RowsPassed k W w h (y + 1) l₀ a₀ b₀ l′ a′ b′
+  rows-more {l′} even lt f q r =
+      let e : 2 * (w / 2) ≡ w = omega arith in
+      let g : Lines (maskBytes k) 0 (y * W) 1 w 1 l l′ = subst (λ (n : ℕ). Lines (maskBytes k) 0 (y * W) 1 n 1 l l′) e f in
+      record {
+        count = omega arith;
+        same-l = f .size ∙ p .same-l;
+        same-a = q ∙ p .same-a;
+        same-b = r ∙ p .same-b;
+        passed = row-more 0 W (maskBytes k) (bytes-local k) l l′ w y (picture 0 W l₀) even (z .wide) g (p .passed);
+      }
+
+module _ {k : Kernel} {W w h x : ℕ} {l₀ a₀ b₀ l a b : List ℕ} (z : Area W w h l₀ a₀ b₀) (p : ColsPassed k W w h x l₀ a₀ b₀ l a b) where
+  pub cols-now : Area W w h l a b
+  cols-now = cols-area l a b z (p .same-l) (p .same-a) (p .same-b) k x (ap turned (p .passed))
+
+  pub cols-more : {l′ a′ b′ : List ℕ} → h % 2 ≡ 0 → (c : ℕ) → x + c ≤ w → Lines (maskBytes k) 0 x W (2 * (h / 2)) c l l′ → length a′ ≡ length a → length b′ ≡ length b
+      → ColsPassed k W w h (x + c) l₀ a₀ b₀ l′ a′ b′
+  cols-more {l′} even c le f q r =
+      let e : 2 * (h / 2) ≡ h = omega arith in
+      let g : Lines (maskBytes k) 0 x W h c l l′ = subst (λ (n : ℕ). Lines (maskBytes k) 0 x W n c l l′) e f in
+      record {
+        count = le;
+        same-l = f .size ∙ p .same-l;
+        same-a = q ∙ p .same-a;
+        same-b = r ∙ p .same-b;
+        passed = col-more 0 W (maskBytes k) (bytes-local k) l l′ h x c (turned (picture 0 W l₀)) even (omega (arith, z .wide)) g (p .passed);
+      }

@@ -1,0 +1,3 @@
+-- What the contracts on masks of pictures cite.
+pub mod Masks
+pub mod Areas

@@ -1,0 +1,176 @@
+// The mask of a region: the line mask walked over rows and columns, level by level.
+ghost use mathlib.Core.Path.{_≡_};
+ghost use Prim.Native.Nat.{_*_, _-_, _/_, _%_, _<_, min};
+ghost use lib.ListN.{length};
+ghost use Rattle.grid.specs.Picture.{rowPass, colPass, walk, Halves};
+ghost use Rattle.grid.specs.Buffer.{picture, InBuffer, Lines};
+ghost use Rattle.refusal.specs.Numbers.{answerNumber, first, accepted};
+ghost use Rattle.refusal.specs.Results.{Result};
+ghost use Rattle.masking.specs.Masks.{maskBytes, maskByte, maskTests};
+ghost use Rattle.masking.specs.Areas.{Binary, Strips, Area};
+use kernel::Choice;
+use kernel::Kernel;
+use refusal::Answer;
+use refusal::Refusal;
+
+// How many columns a strip has at most: as many as the transform's strips.
+const LANES: usize = 16;
+
+// Masks, in place, `lanes` lines of 2m marks, the first mark of line j at start + j, the others of it step apart.
+fn lines(
+    kernel: Kernel,
+    buf: &mut [u8],
+    a: &mut [u8],
+    b: &mut [u8],
+    start: usize,
+    step: usize,
+    m: usize,
+    lanes: usize,
+)
+    requires { ⌜ InBuffer (now buf) start step (2 * m) lanes ⌝ }
+    requires { ⌜ Strips m lanes (now a) (now b) ⌝ }
+    requires { ⌜ Binary (now buf) ⌝ }
+    ensures { λ _. ⌜ Lines (maskBytes kernel) 0 start step (2 * m) lanes (now (buf .entry)) (now (buf .exit)) ⌝ }
+{
+    transfer::bytes::take(buf, a, start, 2 * step, m, lanes);
+    transfer::bytes::take(buf, b, start + step, 2 * step, m, lanes);
+    marking::mask(kernel, a, b, m, lanes);
+    transfer::bytes::put(a, buf, start, step, m, lanes);
+    transfer::bytes::put(b, buf, start + m * step, step, m, lanes);
+}
+
+// The row pass over an area of w by h, in rows of stride bytes.
+fn row_pass(
+    kernel: Kernel,
+    buf: &mut [u8],
+    a: &mut [u8],
+    b: &mut [u8],
+    stride: usize,
+    w: usize,
+    h: usize,
+)
+    requires { ⌜ Area stride w h (now buf) (now a) (now b) ⌝ }
+    requires { ⌜ w % 2 ≡ 0 ⌝ }
+    ensures { λ _. ⌜ picture 0 stride (now (buf .exit)) ≡ rowPass (maskBytes kernel) w h (picture 0 stride (now (buf .entry))) ⌝ }
+{
+    for y in 0..h {
+        lines(kernel, buf, a, b, y * stride, 1, w / 2, 1);
+    }
+}
+
+fn least(x: usize, y: usize) -> usize
+    ensures { λ r. ⌜ r ≡ min x y ⌝ }
+{
+    if x < y { x } else { y }
+}
+
+// The column pass over the same area, a strip of columns at a time.
+fn col_pass(
+    kernel: Kernel,
+    buf: &mut [u8],
+    a: &mut [u8],
+    b: &mut [u8],
+    stride: usize,
+    w: usize,
+    h: usize,
+)
+    requires { ⌜ Area stride w h (now buf) (now a) (now b) ⌝ }
+    requires { ⌜ h % 2 ≡ 0 ⌝ }
+    ensures { λ _. ⌜ picture 0 stride (now (buf .exit)) ≡ colPass (maskBytes kernel) w h (picture 0 stride (now (buf .entry))) ⌝ }
+{
+    let mut x: usize = 0;
+    while x < w {
+        let lanes = least(LANES, w - x);
+        lines(kernel, buf, a, b, x, stride, h / 2, lanes);
+        x += lanes;
+    }
+}
+
+// The levels that are left, on an area of w by h: the rows of the first, which hand the area to `cols`.
+fn rows(
+    kernel: Kernel,
+    buf: &mut [u8],
+    a: &mut [u8],
+    b: &mut [u8],
+    stride: usize,
+    w: usize,
+    h: usize,
+    levels: usize,
+)
+    requires { ⌜ Area stride w h (now buf) (now a) (now b) ⌝ }
+    requires { ⌜ Halves levels w h ⌝ }
+    ensures { λ _. ⌜ picture 0 stride (now (buf .exit)) ≡ walk (maskBytes kernel) levels w h (picture 0 stride (now (buf .entry))) ⌝ }
+{
+    if 0 < levels {
+        row_pass(kernel, buf, a, b, stride, w, h);
+        cols(kernel, buf, a, b, stride, w, h, levels);
+    }
+}
+
+// The columns of the first level, which hand the low quarter to `rows`.
+fn cols(
+    kernel: Kernel,
+    buf: &mut [u8],
+    a: &mut [u8],
+    b: &mut [u8],
+    stride: usize,
+    w: usize,
+    h: usize,
+    levels: usize,
+)
+    requires { ⌜ 0 < levels ⌝ }
+    requires { ⌜ Area stride w h (now buf) (now a) (now b) ⌝ }
+    requires { ⌜ Halves levels w h ⌝ }
+    ensures { λ _. ⌜ picture 0 stride (now (buf .exit)) ≡ walk (maskBytes kernel) (levels - 1) (w / 2) (h / 2) (colPass (maskBytes kernel) w h (picture 0 stride (now (buf .entry)))) ⌝ }
+{
+    col_pass(kernel, buf, a, b, stride, w, h);
+    rows(kernel, buf, a, b, stride, w / 2, h / 2, levels - 1);
+}
+
+fn copy(src: &[u8], dst: &mut [u8])
+    requires { ⌜ length (now dst) ≡ length (now src) ⌝ }
+    ensures { λ _. ⌜ now (dst .exit) ≡ now (src .entry) ⌝ }
+{
+    for i in 0..src.len() {
+        dst[i] = src[i];
+    }
+}
+
+// Fills the lent mask of a picture of w by h samples from its region.
+// Refusals, in order: 1, 2, 4, 5, 9. Under a refusal the mask holds what it held.
+pub fn mask(
+    kernel: usize,
+    levels: usize,
+    w: usize,
+    h: usize,
+    region: &[u8],
+    mask: &mut [u8],
+) -> Answer
+    ensures { λ r. ⌜ answerNumber r ≡ first (maskTests kernel levels w h (now (region .entry)) (length (now (mask .entry)))) ⌝ }
+    ensures { λ r. ⌜ Result 0 (accepted (maskTests kernel levels w h (now (region .entry)) (length (now (mask .entry))))) (maskByte kernel levels w h (now (region .entry))) (now (mask .entry)) (now (mask .exit)) ⌝ }
+{
+    let Choice::Taken(chosen) = Kernel::new(kernel) else {
+        return Answer::Refused(Refusal::Kernel);
+    };
+    if refusal::bad_levels(levels) {
+        return Answer::Refused(Refusal::Levels);
+    }
+    if refusal::bad_size_at(levels, w, h) {
+        return Answer::Refused(Refusal::Size);
+    }
+    if region.len() != w * h {
+        return Answer::Refused(Refusal::Length);
+    }
+    if mask.len() != w * h {
+        return Answer::Refused(Refusal::Length);
+    }
+    if refusal::bad_mark(region) {
+        return Answer::Refused(Refusal::Mark);
+    }
+    copy(region, mask);
+    // Each holds half of the largest strip: 2,048 rows of LANES bytes.
+    let mut a = [0u8; 32768];
+    let mut b = [0u8; 32768];
+    rows(chosen, mask, &mut a, &mut b, w, w, h, levels);
+    Answer::Done
+}

@@ -1,0 +1,2 @@
+-- What the contracts on passes cite.
+pub mod Passes

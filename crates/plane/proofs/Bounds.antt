@@ -1,0 +1,173 @@
+-- Magnitudes through passes and levels: the plane of an accepted picture is accepted, and undoing an accepted plane stays within 32 bits.
+-- Assumes nothing.
+use mathlib.Core.Path.{_≡_}
+use Prim.Native.Nat.{ℕ, zero, suc, _+_, _*_, _-_, _/_, _%_, _^_, _<_, _≤_}
+use native.Mathlib.Omega.{arith}
+use lib.IntN.{ℤ}
+use Rattle.kernel.specs.declared.Kernel.{Kernel}
+use Rattle.whole.specs.Within.{Within}
+use Rattle.line.specs.Cells.{Line, behind}
+use Rattle.line.specs.Bounds.{AllWithin}
+use Rattle.line.specs.Transform.{low, high, forward, back}
+use Rattle.line.proofs.Cells.{by-lt, joined-low, joined-high}
+use Rattle.line.proofs.Bounds.{low-within, high-within, back-within, within-more}
+use Rattle.grid.specs.Picture.{Picture, rowPass, turned, colPass, walk, walkBack, Halves}
+use Rattle.grid.proofs.Passes.{line-in, pass-in}
+use Rattle.grid.proofs.Outside.{walk-below, walk-right, back-below, back-right}
+use Rattle.plane.specs.Plane.{transformed, undone, Below}
+
+pub below-more : {a b w h : ℕ} {P : Picture ℤ} → Below a w h P → a ≤ b → Below b w h P
+below-more p le = record { each = λ y x h k. within-more (p .each y x h k) le }
+
+pub below-part : {a w h : ℕ} {P : Picture ℤ} (u v : ℕ) → Below a w h P → u ≤ w → v ≤ h → Below a u v P
+below-part u v p i j = record { each = λ y x h k. p .each y x (omega arith) (omega arith) }
+
+pub below-turned : {a w h : ℕ} {P : Picture ℤ} → Below a w h P → Below a h w (turned P)
+below-turned p = record { each = λ y x h k. p .each x y k h }
+
+-- ---- forward: a line within a has lows within 2a + 1 and highs within 3a + 2
+module _ (k : Kernel) (w a : ℕ) (X : Line ℤ) (even : w % 2 ≡ 0) (all : AllWithin a w X) where
+  line-low : (x : ℕ) → x < w / 2 → Within (2 * a + 1) (forward k w X x)
+  unfolding forward
+  line-low x h = rw (joined-low (w / 2) (low k (w / 2) X) (high k (w / 2) X) x h) (low-within (w / 2) a X (λ i lt. all i (omega arith)) k x h)
+
+  line-all : (x : ℕ) → x < w → Within (3 * a + 2) (forward k w X x)
+  unfolding forward
+  line-all x h = by-lt x (w / 2)
+      (λ lt. within-more (line-low x lt) (omega arith))
+      (λ ge.
+      let e : w / 2 + (x - w / 2) ≡ x = omega arith in let n = x - w / 2 in
+      let t : Within (3 * a + 2) (forward k w X (w / 2 + n)) = rw (joined-high (w / 2) (low k (w / 2) X) (high k (w / 2) X) n) (high-within (w / 2) a X (λ i lt. all i (omega arith)) k n (omega arith)) in
+      rw e at t)
+
+module _ (k : Kernel) (w h a : ℕ) (P : Picture ℤ) (even : w % 2 ≡ 0) (all : Below a w h P) where
+  pub row-low : Below (2 * a + 1) (w / 2) h (rowPass (forward k) w h P)
+  row-low = record {
+    each = λ y x p q. rw (pass-in (forward k) w h y P p, line-in (forward k) w (P y) x (omega arith)) (line-low k w a (P y) even (λ i r. all .each y i p r) x q);
+  }
+
+  pub row-all : Below (3 * a + 2) w h (rowPass (forward k) w h P)
+  row-all = record {
+    each = λ y x p q. rw (pass-in (forward k) w h y P p, line-in (forward k) w (P y) x q) (line-all k w a (P y) even (λ i r. all .each y i p r) x q);
+  }
+
+-- the columns, by turning
+module _ (k : Kernel) (w h a : ℕ) (P : Picture ℤ) (even : h % 2 ≡ 0) (all : Below a w h P) where
+  pub col-low : Below (2 * a + 1) w (h / 2) (colPass (forward k) w h P)
+  col-low = below-turned (row-low k h w a (turned P) even (below-turned all))
+
+  pub col-all : Below (3 * a + 2) w h (colPass (forward k) w h P)
+  col-all = below-turned (row-all k h w a (turned P) even (below-turned all))
+
+-- ---- levels forward: an area within a has a low quarter within 4a + 3, and nothing past 9a + 8
+Stays : ℕ → ℕ → ℕ → Type 0
+Stays zero a c = a ≤ c
+Stays (suc n) a c = (9 * a + 8 ≤ c) × Stays n (4 * a + 3) c
+
+levels-within : (k : Kernel) (n w h a c : ℕ) (P : Picture ℤ) → Halves n w h → Stays n a c → Below a w h P → Below c w h (transformed k n w h P)
+unfolding walk Halves Stays
+levels-within k zero w h a c P s t all = below-more all t
+levels-within k (suc n) w h a c P s t all =
+    let R = rowPass (forward k) w h P in
+    let quarter : Below (4 * a + 3) (w / 2) (h / 2) (colPass (forward k) w h R)
+    = record {
+      each = λ y x p q. rw (pass-in (forward k) h w x (turned R) (omega arith), line-in (forward k) h (turned R x) y (omega arith))
+          (within-more (line-low k h (2 * a + 1) (turned R x) (s .1) (λ i r. row-low k w h a P (s .0) all .each i x r q) y p) (omega arith));
+    } in
+    let level : Below (9 * a + 8) w h (colPass (forward k) w h R)
+    = below-more (col-all k w h (3 * a + 2) R (s .1) (row-all k w h a P (s .0) all)) (omega arith) in
+    let deeper = levels-within k n (w / 2) (h / 2) (4 * a + 3) c _ (s .2) (t .1) quarter in
+    record {
+      each = λ y x p q. by-lt y (h / 2)
+          (λ i. by-lt x (w / 2)
+          (λ j. deeper .each y x i j)
+          (λ j. rw (walk-right (forward k) n (w / 2) (h / 2) y x (colPass (forward k) w h R) j) (within-more (level .each y x p q) (t .0))))
+          (λ i. rw (walk-below (forward k) n (w / 2) (h / 2) y x (colPass (forward k) w h R) i) (within-more (level .each y x p q) (t .0)));
+    }
+
+-- the plane of a picture of samples 0 to 1,023, five levels at most, has magnitudes below 2^22
+five : (n : ℕ) → n ≤ 5 → Stays n 1023 (2 ^ 22 - 1)
+unfolding Stays
+five zero h = omega arith
+five (suc zero) h = omega arith
+five (suc (suc zero)) h = omega arith
+five (suc (suc (suc zero))) h = omega arith
+five (suc (suc (suc (suc zero)))) h = omega arith
+five (suc (suc (suc (suc (suc zero))))) h = omega arith
+five (suc (suc (suc (suc (suc (suc n)))))) h = absurd (omega arith)
+
+pub transform-accepted : (k : Kernel) (J W H : ℕ) (P : Picture ℤ) → Halves J W H → J ≤ 5 → Below 1023 W H P → Below (2 ^ 22 - 1) W H (transformed k J W H P)
+transform-accepted k J W H P s j all = levels-within k J W H 1023 (2 ^ 22 - 1) P s (five J j) all
+
+-- ---- back: lows within a and highs within b give a line within 3(a + b)/2 + 2
+unfoldable pub backBound : ℕ → ℕ → ℕ
+backBound a b = 3 * (a + b) / 2 + 2
+
+module _ (k : Kernel) (w h a b : ℕ) (P : Picture ℤ) (even : w % 2 ≡ 0)
+    (lows : (y : ℕ) → y < h → AllWithin a (w / 2) (P y)) (highs : (y : ℕ) → y < h → AllWithin b (w / 2) (behind (w / 2) (P y))) where
+  row-back : Below (backBound a b) w h (rowPass (back k) w h P)
+  unfolding backBound
+  row-back = record {
+    each = λ y x p q. rw (pass-in (back k) w h y P p, line-in (back k) w (P y) x q) (back-within k w a b (P y) even (lows y p) (highs y p) x q);
+  }
+
+-- what n levels undone make of numbers within m
+unfoldable pub undoBound : ℕ → ℕ → ℕ
+undoBound m zero = m
+undoBound m (suc n) = backBound (backBound (undoBound m n) m) (backBound m m)
+
+bound-grows : (m n : ℕ) → m ≤ undoBound m n
+unfolding undoBound backBound
+bound-grows m zero = omega arith
+bound-grows m (suc n) = omega (arith, bound-grows m n)
+
+-- one level more: R is the plane with the low quarter undone, C is R with its columns undone
+module _ (k : Kernel) (n w h m : ℕ) (P : Picture ℤ) (even-w : w % 2 ≡ 0) (even-h : h % 2 ≡ 0) (all : Below m w h P)
+    (quarter : Below (undoBound m n) (w / 2) (h / 2) (undone k n (w / 2) (h / 2) P)) where
+  rest-below : (y x : ℕ) → h / 2 ≤ y → y < h → x < w → Within m (undone k n (w / 2) (h / 2) P y x)
+  rest-below y x ge p q = rw (back-below (back k) n (w / 2) (h / 2) y x P ge) (all .each y x p q)
+
+  rest-right : (y x : ℕ) → w / 2 ≤ x → y < h → x < w → Within m (undone k n (w / 2) (h / 2) P y x)
+  rest-right y x ge p q = rw (back-right (back k) n (w / 2) (h / 2) y x P ge) (all .each y x p q)
+
+  -- the columns of R
+  pub column-lows : (x : ℕ) → x < w → AllWithin (undoBound m n) (h / 2) (turned (undone k n (w / 2) (h / 2) P) x)
+  column-lows x q y p = by-lt x (w / 2)
+      (λ lt. quarter .each y x p lt)
+      (λ ge. within-more (rest-right y x ge (omega arith) q) (bound-grows m n))
+
+  pub column-highs : (x : ℕ) → x < w → AllWithin m (h / 2) (behind (h / 2) (turned (undone k n (w / 2) (h / 2) P) x))
+  column-highs x q y p = rest-below (h / 2 + y) x (omega arith) (omega arith) q
+
+  -- the columns of C
+  column-back : (x y a : ℕ) → x < w → y < h → AllWithin a (h / 2) (turned (undone k n (w / 2) (h / 2) P) x)
+      → Within (backBound a m) (colPass (back k) w h (undone k n (w / 2) (h / 2) P) y x)
+  unfolding backBound
+  column-back x y a q p lows =
+      rw (pass-in (back k) h w x (turned (undone k n (w / 2) (h / 2) P)) q, line-in (back k) h (turned (undone k n (w / 2) (h / 2) P) x) y p)
+      (back-within k h a m (turned (undone k n (w / 2) (h / 2) P) x) even-h lows (column-highs x q) y p)
+
+  -- the rows of C
+  pub row-lows : (y : ℕ) → y < h → AllWithin (backBound (undoBound m n) m) (w / 2) (colPass (back k) w h (undone k n (w / 2) (h / 2) P) y)
+  row-lows y p x q = column-back x y (undoBound m n) (omega arith) p (column-lows x (omega arith))
+
+  pub row-highs : (y : ℕ) → y < h → AllWithin (backBound m m) (w / 2) (behind (w / 2) (colPass (back k) w h (undone k n (w / 2) (h / 2) P) y))
+  row-highs y p x q = column-back (w / 2 + x) y m (omega arith) p (λ i r. rest-right i (w / 2 + x) (omega arith) (omega arith) (omega arith))
+
+pub undo-within : (k : Kernel) (n w h m : ℕ) (P : Picture ℤ) → Halves n w h → Below m w h P → Below (undoBound m n) w h (undone k n w h P)
+unfolding walkBack Halves undoBound
+undo-within k zero w h m P s all = all
+undo-within k (suc n) w h m P s all =
+    let quarter = undo-within k n (w / 2) (h / 2) m P (s .2) (below-part (w / 2) (h / 2) all (omega arith) (omega arith)) in
+    row-back k w h (backBound (undoBound m n) m) (backBound m m) _ (s .0)
+    (row-lows k n w h m P (s .0) (s .1) all quarter) (row-highs k n w h m P (s .0) (s .1) all quarter)
+
+-- an accepted plane is within 2^22 − 1; up to four levels below, its lows and highs are what a line's way back takes
+pub undo-fits : (n : ℕ) → n ≤ 4 → (undoBound (2 ^ 22 - 1) n ≤ 2 ^ 30) × (backBound (undoBound (2 ^ 22 - 1) n) (2 ^ 22 - 1) ≤ 2 ^ 30) × (backBound (2 ^ 22 - 1) (2 ^ 22 - 1) ≤ 2 ^ 24)
+unfolding undoBound backBound
+undo-fits zero h = omega arith
+undo-fits (suc zero) h = omega arith
+undo-fits (suc (suc zero)) h = omega arith
+undo-fits (suc (suc (suc zero))) h = omega arith
+undo-fits (suc (suc (suc (suc zero)))) h = omega arith
+undo-fits (suc (suc (suc (suc (suc n))))) h = absurd (omega arith)

@@ -1,0 +1,56 @@
+-- Demand 3, first part: two planes that agree on the mask have, at each level, pictures that differ nowhere where that level's mask marks.
+-- Assumes nothing.
+use mathlib.Core.Path.{_≡_, refl, ap, _∙_}
+use mathlib.Core.Bool.{Bool, true, false, not, _&&_}
+use Prim.Native.Nat.{ℕ, zero, suc, _+_, _-_, _<_, _≤_}
+use native.Mathlib.Omega.{arith}
+use lib.IntN.{ℤ, pos, negsuc}
+use borrow.Author.Tests.{eq-eqb}
+use Rattle.kernel.specs.declared.Kernel.{Kernel}
+use Rattle.line.specs.Transform.{back}
+use Rattle.line.specs.Mask.{maskLine}
+use Rattle.line.proofs.Covered.{covered}
+use Rattle.grid.specs.Picture.{Picture, side, Halves, AgreeOn}
+use Rattle.grid.proofs.Levels.{walk-add, halves-add, side-le}
+use Rattle.grid.proofs.Covered.{walk-covered}
+use Rattle.plane.specs.Plane.{maskOf, levelMask, levelPicture}
+use Rattle.plane.specs.Counts.{same, count, places}
+
+-- ---- counts
+same-self : (a : ℤ) → same a a ≡ true
+unfolding same
+same-self (pos a) = eq-eqb a a refl
+same-self (negsuc a) = eq-eqb a a refl
+
+count-none : (n : ℕ) (f : ℕ → Bool) → ((i : ℕ) → i < n → f i ≡ false) → count n f ≡ 0
+unfolding count
+count-none zero f none = refl
+count-none (suc n) f none = rw (none n (omega arith), count-none n f (λ i h. none i (omega arith))) (omega arith)
+
+places-none : (w h : ℕ) (F : Picture Bool) → ((y x : ℕ) → y < h → x < w → F y x ≡ false) → places w h F ≡ 0
+unfolding places
+places-none w zero F none = refl
+places-none w (suc h) F none =
+    rw (places-none w h F (λ y x p. none y x (omega arith)), count-none w (F h) (λ x q. none h x (omega arith) q)) (omega arith)
+
+-- marked and different
+abbrev pub differs : Picture Bool → Picture ℤ → Picture ℤ → Picture Bool
+differs B P Q y x = B y x && not (same (P y x) (Q y x))
+
+nowhere : (m : Bool) (a b : ℤ) → (m ≡ true → a ≡ b) → (m && not (same a b)) ≡ false
+nowhere false a b e = refl
+nowhere true a b e = rw (e refl, same-self b)
+
+-- ---- the levels
+module _ (k : Kernel) (J W H : ℕ) (B : Picture Bool) (P P′ : Picture ℤ) (s : Halves J W H) (a : AgreeOn W H (maskOf k J W H B) P P′) (j : ℕ) (h : j ≤ J) where
+  pub level-agrees : AgreeOn W H (levelMask k j W H B) (levelPicture k J j W H P) (levelPicture k J j W H P′)
+  level-agrees =
+      let e : j + (J - j) ≡ J = omega arith in
+      let b : AgreeOn W H (maskOf k (j + (J - j)) W H B) P P′ = rw e a in
+      walk-covered (maskLine k) (back k) (λ w C Y Y′ even c. covered k w C Y Y′ even c) (J - j) W H (side j W) (side j H) (levelMask k j W H B) P P′
+      (side-le j W) (side-le j H) (halves-add j (J - j) W H (rw e s))
+      (λ y x p q t. b y x p q (ap (λ (R : Picture Bool). R y x) (walk-add (maskLine k) j (J - j) W H B) ∙ t))
+
+  pub level-exact : places (side j W) (side j H) (differs (levelMask k j W H B) (levelPicture k J j W H P) (levelPicture k J j W H P′)) ≡ 0
+  level-exact = places-none (side j W) (side j H) _ (λ y x p q.
+      nowhere (levelMask k j W H B y x) _ _ (λ t. level-agrees y x (omega (arith, side-le j H)) (omega (arith, side-le j W)) t))

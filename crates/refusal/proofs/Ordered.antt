@@ -1,0 +1,52 @@
+-- The laws by which a proof walks an ordered list of tests: `search ordered depth 20 fits 3000` answers each return of a chain of tests that
+-- returns the refusal of the first that holds. Assumes nothing.
+use mathlib.Core.Path.{_≡_, refl, sym, _∙_}
+use mathlib.Core.Bool.{Bool, true, false, not}
+use mathlib.Core.List.{List, [], _∷_}
+use Prim.Native.Nat.{ℕ, suc, _<_}
+use native.Mathlib.Omega.{arith}
+use borrow.Author.Needs.{needs}
+use borrow.Author.Tests.{lt-ltb, le-ltb, le-leb, lt-leb, eq-eqb, ne-eqb}
+use lib.Dec.{eqb, eqb·suc-zero}
+use Rattle.refusal.specs.Numbers.{Test, test, first, accepted}
+use Rattle.refusal.specs.Results.{Result}
+
+pub none : 0 ≡ first []
+unfolding first
+none = refl
+
+pub here : (b : Bool) (n : ℕ) (ts : List Test) → b ≡ true → n ≡ first (test b n ∷ ts)
+unfolding first
+here b n ts e = rw e
+
+pub next : (b : Bool) (m n : ℕ) (ts : List Test) → b ≡ false → m ≡ first ts → m ≡ first (test b n ∷ ts)
+unfolding first
+next b m n ts e h = rw e h
+
+-- a negated test
+pub is : (b : Bool) → b ≡ true → not b ≡ false
+is b e = rw e
+
+pub isnt : (b : Bool) → b ≡ false → not b ≡ true
+isnt b e = rw e
+
+-- of two numbers one of which is less, that they are equal
+pub less : (a b : ℕ) → a < b → eqb a b ≡ false
+less a b h = ne-eqb a b (omega arith)
+
+pub more : (a b : ℕ) → b < a → eqb a b ≡ false
+more a b h = ne-eqb a b (omega arith)
+
+-- a test that a function computes: what the branch on its answer told
+pub told : (b r t : Bool) → r ≡ b → r ≡ t → b ≡ t
+told b r t e h = sym e ∙ h
+
+pub ruleset ordered = (none, here, next, is, isnt, less, more, told, lt-ltb, le-ltb, le-leb, lt-leb, eq-eqb, ne-eqb, needs)
+
+-- ---- what an entry returns: a buffer under a refusal, and that of an accepted call
+module _ {A : Type 0} {o : A} {f : ℕ → A} {l : List A} (ts : List Test) where
+  pub refused : {n : ℕ} → suc n ≡ first ts → (suc n ≡ first ts) × Result o (accepted ts) f l l
+  refused {n} e = (e, record { size = refl; cell = λ i h. rw (← e, eqb·suc-zero n) })
+
+  pub done : {l′ : List A} → 0 ≡ first ts → Result o true f l l′ → (0 ≡ first ts) × Result o (accepted ts) f l l′
+  done e r = (e, rw (← e) r)

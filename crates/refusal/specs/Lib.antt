@@ -1,0 +1,4 @@
+-- What the contracts of entries cite.
+pub mod Numbers
+pub mod Tests
+pub mod Results

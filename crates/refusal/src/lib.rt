@@ -1,0 +1,146 @@
+// Refusals: what an entry answers, and the tests that entries share.
+ghost use mathlib.Core.Path.{_≡_};
+ghost use Prim.Native.Nat.{_<_, _≤_, _^_};
+ghost use lib.Dec.{leb};
+ghost use lib.IntN.{natAbs};
+ghost use Rattle.refusal.specs.Numbers.{refusalNumber, answerNumber};
+ghost use Rattle.refusal.specs.Tests as tests;
+
+// Document 01's refusals 1 to 16, in the order of their numbers.
+pub enum Refusal {
+    Kernel,
+    Levels,
+    Depth,
+    Size,
+    Length,
+    Sample,
+    Numbers,
+    Rectangle,
+    Mark,
+    Magnitude,
+    Room,
+    Header,
+    Version,
+    Planes,
+    Cut,
+    Filling,
+}
+
+// What an entry answers that returns no number of its own.
+pub enum Answer {
+    Done,
+    Refused(Refusal),
+}
+
+// Document 01's number of a refusal.
+pub fn refusal_number(refusal: Refusal) -> u64
+    ensures { λ r. ⌜ r ≡ refusalNumber refusal ⌝ }
+{
+    match refusal {
+        Refusal::Kernel => 1,
+        Refusal::Levels => 2,
+        Refusal::Depth => 3,
+        Refusal::Size => 4,
+        Refusal::Length => 5,
+        Refusal::Sample => 6,
+        Refusal::Numbers => 7,
+        Refusal::Rectangle => 8,
+        Refusal::Mark => 9,
+        Refusal::Magnitude => 10,
+        Refusal::Room => 11,
+        Refusal::Header => 12,
+        Refusal::Version => 13,
+        Refusal::Planes => 14,
+        Refusal::Cut => 15,
+        Refusal::Filling => 16,
+    }
+}
+
+// 0, or the number of the refusal.
+pub fn answer_number(answer: Answer) -> u64
+    ensures { λ r. ⌜ r ≡ answerNumber answer ⌝ }
+{
+    match answer {
+        Answer::Done => 0,
+        Answer::Refused(refusal) => refusal_number(refusal),
+    }
+}
+
+pub fn bad_levels(levels: usize) -> bool
+    ensures { λ r. ⌜ r ≡ tests.badLevels levels ⌝ }
+{
+    (levels < 1) | (5 < levels)
+}
+
+pub fn bad_depth(depth: usize) -> bool
+    ensures { λ r. ⌜ r ≡ tests.badDepth depth ⌝ }
+{
+    (depth < 1) | (10 < depth)
+}
+
+pub fn bad_size(w: usize, h: usize) -> bool
+    ensures { λ r. ⌜ r ≡ tests.badSize w h ⌝ }
+{
+    (w < 1) | (4096 < w) | ((h < 1) | (4096 < h))
+}
+
+// 2 to the n.
+pub fn power(n: usize) -> usize
+    requires { ⌜ n < 64 ⌝ }
+    ensures { λ r. ⌜ r ≡ 2 ^ n ⌝ }
+{
+    1 << n
+}
+
+pub fn bad_size_at(levels: usize, w: usize, h: usize) -> bool
+    requires { ⌜ levels ≤ 5 ⌝ }
+    ensures { λ r. ⌜ r ≡ tests.badSizeAt levels w h ⌝ }
+{
+    let unit = power(levels);
+    bad_size(w, h) | (w % unit != 0) | (h % unit != 0)
+}
+
+// The scans go through every cell, so that the compiler can test many at a time.
+
+// A sample is above 2^depth - 1.
+pub fn bad_sample(depth: usize, samples: &[u16]) -> bool
+    requires { ⌜ depth ≤ 10 ⌝ }
+    ensures { λ r. ⌜ r ≡ tests.badSample depth (now (samples .entry)) ⌝ }
+{
+    let top = (power(depth) - 1) as u16;
+    let mut bad = false;
+    for i in 0..samples.len() {
+        bad = bad | (top < samples[i]);
+    }
+    bad
+}
+
+// A byte is above 1.
+pub fn bad_mark(marks: &[u8]) -> bool
+    ensures { λ r. ⌜ r ≡ tests.badMark (now (marks .entry)) ⌝ }
+{
+    let mut bad = false;
+    for i in 0..marks.len() {
+        bad = bad | (1 < marks[i]);
+    }
+    bad
+}
+
+// A magnitude of 2^22 or more.
+fn large(c: i32) -> bool
+    ensures { λ r. ⌜ r ≡ leb (2 ^ 22) (natAbs c) ⌝ }
+{
+    (c <= -4194304) | (4194304 <= c)
+}
+
+// A magnitude is 2^22 or more.
+pub fn bad_magnitude(plane: &[i32]) -> bool
+    ensures { λ r. ⌜ r ≡ tests.badMagnitude (now (plane .entry)) ⌝ }
+{
+    let mut bad = false;
+    for i in 0..plane.len() {
+        let c = plane[i];
+        bad = bad | large(c);
+    }
+    bad
+}

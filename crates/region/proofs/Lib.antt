@@ -1,0 +1,3 @@
+-- The laws of drawing rectangles.
+pub mod Boxes
+pub mod Painted

@@ -1,0 +1,71 @@
+-- Drawing rectangles one after the other in a region that was cleared.
+--
+--   Painted l W r n m == the region m of n places holds the first r rectangles of the numbers l
+--
+-- Assumes nothing.
+use mathlib.Core.Path.{_≡_, refl, sym, ap, _∙_}
+use mathlib.Core.Bool.{Bool, true, false, _||_}
+use mathlib.Core.List.{List}
+use Prim.Native.Nat.{ℕ, _+_, _*_, _/_, _%_, _<_, _≤_}
+use native.Mathlib.Numerals.{add-one}
+use native.Mathlib.Omega.{arith}
+use native.Mathlib.Nat.{mul-comm, mul-le-mul-right}
+use borrow.Author.Tests.{lt-ltb, le-leb, ltb-false}
+use lib.Dec.{eqb, ltb}
+use lib.ListN.{length, getD}
+use Rattle.line.specs.Cells.{choose}
+use Rattle.line.specs.Mask.{anyBelow}
+use Rattle.marking.specs.Marks.{byteOf}
+use Rattle.refusal.specs.Results.{Result}
+use Rattle.refusal.specs.Tests.{badRectangle, badRectangles}
+use Rattle.refusal.proofs.Passed.{neither, none-of}
+use Rattle.region.specs.Region.{inRectangle, inRegion, regionByte}
+use Rattle.region.specs.Drawing.{Filled, Drawn, Inside}
+
+pub record Painted (l : List ℕ) (W r n : ℕ) (m : List ℕ) : Type 0 where
+  pub count : r ≤ length l / 4
+  pub size : length m ≡ n
+  pub cell : (i : ℕ) → i < n → getD m i 0 ≡ byteOf (anyBelow r (λ k. inRectangle l k (i % W) (i / W)))
+
+joined : (a b : Bool) → choose b 1 (byteOf a) ≡ byteOf (a || b)
+joined true true = refl
+joined true false = refl
+joined false true = refl
+joined false false = refl
+
+module _ {l : List ℕ} {W n : ℕ} where
+  pub painted-none : {m₀ m : List ℕ} → length m₀ ≡ n → Filled 0 0 n m₀ m → Painted l W 0 n m
+  unfolding anyBelow
+  painted-none e f = record {
+    count = omega arith;
+    size = f .size ∙ e;
+    cell = λ i h. f .cell i ∙ rw (le-leb 0 i (omega arith), lt-ltb i (0 + n) (omega arith));
+  }
+
+  pub painted-more : {r : ℕ} {m m′ : List ℕ} → Painted l W r n m → r < length l / 4
+      → Drawn (getD l (4 * r) 0) (getD l (4 * r + 1) 0) (getD l (4 * r + 2) 0) (getD l (4 * r + 3) 0) W m m′ → Painted l W (r + 1) n m′
+  unfolding anyBelow
+  painted-more {r} p h d = record {
+    count = omega arith;
+    size = d .size ∙ p .size;
+    cell = λ i h. d .cell i ∙ ap (choose (inRectangle l r (i % W) (i / W)) 1) (p .cell i h)
+        ∙ joined (anyBelow r (λ k. inRectangle l k (i % W) (i / W))) (inRectangle l r (i % W) (i / W)) ∙ rw (add-one r);
+  }
+
+  pub painted-all : {r : ℕ} {m₀ m : List ℕ} → Painted l W r n m → length l / 4 ≤ r → length m₀ ≡ n → Result 0 true (regionByte l W) m₀ m
+  unfolding inRegion
+  painted-all {r} p h e = let q : r ≡ length l / 4 = omega (arith, p .count) in record { size = p .size ∙ sym e; cell = λ i b. rw q at (p .cell i (omega arith)) }
+
+-- ---- the rectangles of an accepted call are inside
+in-picture : (W H x y w h : ℕ) → badRectangle W H x y w h ≡ false → (x + w ≤ W) × (y + h ≤ H)
+in-picture W H x y w h e =
+    let p = neither (eqb w 0 || eqb h 0 || ltb W (x + w)) (ltb H (y + h)) e in
+    let q = neither (eqb w 0 || eqb h 0) (ltb W (x + w)) (p .0) in
+    (ltb-false W (x + w) (q .1), ltb-false H (y + h) (p .1))
+
+pub rectangles-inside : (W H : ℕ) (l : List ℕ) {n : ℕ} → badRectangles W H l ≡ false → n ≡ W * H → Inside l W n
+unfolding badRectangles
+rectangles-inside W H l {n} e size =
+    let passed : (r : ℕ) → r < length l / 4 → (getD l (4 * r) 0 + getD l (4 * r + 2) 0 ≤ W) × (getD l (4 * r + 1) 0 + getD l (4 * r + 3) 0 ≤ H)
+    = λ r h. in-picture W H _ _ _ _ (none-of (length l / 4) _ e r h) in
+    record { right = λ r h. passed r h .0; bottom = λ r h. omega (arith, mul-comm W H, mul-le-mul-right W (passed r h .1)) }

@@ -1,0 +1,34 @@
+-- Drawing rectangles in a region of rows of W bytes.
+--
+--   within at n i              == place i is one of n places from `at` on
+--   inBox x y w h c r          == column c and row r are inside the rectangle x, y, width w, height h
+--   Filled b at n l l′         == l′ is l with the byte b in n places from `at` on
+--   Drawn x y w h W l l′       == l′ is l with the byte 1 inside the rectangle
+--   Inside l W n               == each rectangle of the numbers l is inside rows of W, and inside n places
+--
+-- Assumes nothing: these are definitions.
+use mathlib.Core.Path.{_≡_}
+use mathlib.Core.Bool.{Bool, _&&_}
+use mathlib.Core.List.{List}
+use Prim.Native.Nat.{ℕ, _+_, _*_, _/_, _%_, _<_, _≤_}
+use lib.Dec.{leb, ltb}
+use lib.ListN.{length, getD}
+use Rattle.line.specs.Cells.{choose}
+
+abbrev pub within : ℕ → ℕ → ℕ → Bool
+within at n i = leb at i && ltb i (at + n)
+
+abbrev pub inBox : ℕ → ℕ → ℕ → ℕ → ℕ → ℕ → Bool
+inBox x y w h c r = leb x c && ltb c (x + w) && leb y r && ltb r (y + h)
+
+pub record Filled (b at n : ℕ) (l l′ : List ℕ) : Type 0 where
+  pub size : length l′ ≡ length l
+  pub cell : (i : ℕ) → getD l′ i 0 ≡ choose (within at n i) b (getD l i 0)
+
+pub record Drawn (x y w h W : ℕ) (l l′ : List ℕ) : Type 0 where
+  pub size : length l′ ≡ length l
+  pub cell : (i : ℕ) → getD l′ i 0 ≡ choose (inBox x y w h (i % W) (i / W)) 1 (getD l i 0)
+
+pub record Inside (l : List ℕ) (W n : ℕ) : Type 0 where
+  pub right : (r : ℕ) → r < length l / 4 → getD l (4 * r) 0 + getD l (4 * r + 2) 0 ≤ W
+  pub bottom : (r : ℕ) → r < length l / 4 → (getD l (4 * r + 1) 0 + getD l (4 * r + 3) 0) * W ≤ n

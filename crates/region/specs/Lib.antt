@@ -1,0 +1,3 @@
+-- What the contracts on regions cite.
+pub mod Region
+pub mod Drawing

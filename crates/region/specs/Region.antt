@@ -1,0 +1,31 @@
+-- The region that rectangles draw (document 01, "The mask": one byte a sample, 1 inside any rectangle, else 0).
+--
+--   inRectangle l r x y  == column x and row y are inside rectangle r of the numbers l, four a rectangle: x, y, width, height
+--   inRegion l x y       == they are inside any rectangle
+--   regionByte l W i     == the region's byte at place i of rows of W
+--   regionTests          == the refusals of the call, in document 01's order: 4, 7, 8, 5
+--
+-- Assumes nothing: these are definitions.
+use mathlib.Core.Bool.{Bool, _&&_}
+use mathlib.Core.List.{List, [], _∷_}
+use Prim.Native.Nat.{ℕ, _+_, _*_, _/_, _%_}
+use lib.Dec.{leb, ltb}
+use lib.ListN.{length, getD}
+use Rattle.line.specs.Mask.{anyBelow}
+use Rattle.marking.specs.Marks.{byteOf}
+use Rattle.refusal.specs.Numbers.{Test, test}
+use Rattle.refusal.specs.Tests.{badSize, badLength, badNumbers, badRectangles}
+
+abbrev pub inRectangle : List ℕ → ℕ → ℕ → ℕ → Bool
+inRectangle l r x y =
+    leb (getD l (4 * r) 0) x && ltb x (getD l (4 * r) 0 + getD l (4 * r + 2) 0)
+    && leb (getD l (4 * r + 1) 0) y && ltb y (getD l (4 * r + 1) 0 + getD l (4 * r + 3) 0)
+
+unfoldable pub inRegion : List ℕ → ℕ → ℕ → Bool
+inRegion l x y = anyBelow (length l / 4) (λ r. inRectangle l r x y)
+
+abbrev pub regionByte : List ℕ → ℕ → ℕ → ℕ
+regionByte l W i = byteOf (inRegion l (i % W) (i / W))
+
+abbrev pub regionTests : List ℕ → ℕ → ℕ → ℕ → List Test
+regionTests l W H n = test (badSize W H) 4 ∷ test (badNumbers l) 7 ∷ test (badRectangles W H l) 8 ∷ test (badLength W H n) 5 ∷ []

@@ -1,0 +1,3 @@
+-- The laws of single samples.
+pub mod Planes
+pub mod Truncation

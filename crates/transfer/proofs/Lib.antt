@@ -1,0 +1,3 @@
+-- The laws of copies and strips.
+pub mod Copies
+pub mod Strips

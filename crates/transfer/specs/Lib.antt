@@ -1,0 +1,2 @@
+-- What the contracts on strips cite.
+pub mod Copied

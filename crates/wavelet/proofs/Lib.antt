@@ -1,0 +1,3 @@
+-- The laws of the walks over the levels.
+pub mod Walking
+pub mod Entries
