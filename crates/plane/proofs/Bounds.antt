@@ -14,7 +14,7 @@ use Rattle.line.proofs.Bounds.{low-within, high-within, back-within, within-mor
 use Rattle.grid.specs.Picture.{Picture, rowPass, turned, colPass, walk, walkBack, Halves}
 use Rattle.grid.proofs.Passes.{line-in, pass-in}
 use Rattle.grid.proofs.Outside.{walk-below, walk-right, back-below, back-right}
-use Rattle.plane.specs.Plane.{transformed, undone, Below}
+use Rattle.plane.specs.Plane.{transformed, Below}
 
 pub below-more : {a b w h : ℕ} {P : Picture ℤ} → Below a w h P → a ≤ b → Below b w h P
 below-more p le = record { each = λ y x h k. within-more (p .each y x h k) le }
@@ -123,38 +123,38 @@ bound-grows m (suc n) = omega (arith, bound-grows m n)
 
 -- one level more: R is the plane with the low quarter undone, C is R with its columns undone
 module _ (k : Kernel) (n w h m : ℕ) (P : Picture ℤ) (even-w : w % 2 ≡ 0) (even-h : h % 2 ≡ 0) (all : Below m w h P)
-    (quarter : Below (undoBound m n) (w / 2) (h / 2) (undone k n (w / 2) (h / 2) P)) where
-  rest-below : (y x : ℕ) → h / 2 ≤ y → y < h → x < w → Within m (undone k n (w / 2) (h / 2) P y x)
+    (quarter : Below (undoBound m n) (w / 2) (h / 2) (walkBack (back k) n (w / 2) (h / 2) P)) where
+  rest-below : (y x : ℕ) → h / 2 ≤ y → y < h → x < w → Within m (walkBack (back k) n (w / 2) (h / 2) P y x)
   rest-below y x ge p q = rw (back-below (back k) n (w / 2) (h / 2) y x P ge) (all .each y x p q)
 
-  rest-right : (y x : ℕ) → w / 2 ≤ x → y < h → x < w → Within m (undone k n (w / 2) (h / 2) P y x)
+  rest-right : (y x : ℕ) → w / 2 ≤ x → y < h → x < w → Within m (walkBack (back k) n (w / 2) (h / 2) P y x)
   rest-right y x ge p q = rw (back-right (back k) n (w / 2) (h / 2) y x P ge) (all .each y x p q)
 
   -- the columns of R
-  pub column-lows : (x : ℕ) → x < w → AllWithin (undoBound m n) (h / 2) (turned (undone k n (w / 2) (h / 2) P) x)
+  pub column-lows : (x : ℕ) → x < w → AllWithin (undoBound m n) (h / 2) (turned (walkBack (back k) n (w / 2) (h / 2) P) x)
   column-lows x q y p = by-lt x (w / 2)
       (λ lt. quarter .each y x p lt)
       (λ ge. within-more (rest-right y x ge (omega arith) q) (bound-grows m n))
 
-  pub column-highs : (x : ℕ) → x < w → AllWithin m (h / 2) (behind (h / 2) (turned (undone k n (w / 2) (h / 2) P) x))
+  pub column-highs : (x : ℕ) → x < w → AllWithin m (h / 2) (behind (h / 2) (turned (walkBack (back k) n (w / 2) (h / 2) P) x))
   column-highs x q y p = rest-below (h / 2 + y) x (omega arith) (omega arith) q
 
   -- the columns of C
-  column-back : (x y a : ℕ) → x < w → y < h → AllWithin a (h / 2) (turned (undone k n (w / 2) (h / 2) P) x)
-      → Within (backBound a m) (colPass (back k) w h (undone k n (w / 2) (h / 2) P) y x)
+  column-back : (x y a : ℕ) → x < w → y < h → AllWithin a (h / 2) (turned (walkBack (back k) n (w / 2) (h / 2) P) x)
+      → Within (backBound a m) (colPass (back k) w h (walkBack (back k) n (w / 2) (h / 2) P) y x)
   unfolding backBound
   column-back x y a q p lows =
-      rw (pass-in (back k) h w x (turned (undone k n (w / 2) (h / 2) P)) q, line-in (back k) h (turned (undone k n (w / 2) (h / 2) P) x) y p)
-      (back-within k h a m (turned (undone k n (w / 2) (h / 2) P) x) even-h lows (column-highs x q) y p)
+      rw (pass-in (back k) h w x (turned (walkBack (back k) n (w / 2) (h / 2) P)) q, line-in (back k) h (turned (walkBack (back k) n (w / 2) (h / 2) P) x) y p)
+      (back-within k h a m (turned (walkBack (back k) n (w / 2) (h / 2) P) x) even-h lows (column-highs x q) y p)
 
   -- the rows of C
-  pub row-lows : (y : ℕ) → y < h → AllWithin (backBound (undoBound m n) m) (w / 2) (colPass (back k) w h (undone k n (w / 2) (h / 2) P) y)
+  pub row-lows : (y : ℕ) → y < h → AllWithin (backBound (undoBound m n) m) (w / 2) (colPass (back k) w h (walkBack (back k) n (w / 2) (h / 2) P) y)
   row-lows y p x q = column-back x y (undoBound m n) (omega arith) p (column-lows x (omega arith))
 
-  pub row-highs : (y : ℕ) → y < h → AllWithin (backBound m m) (w / 2) (behind (w / 2) (colPass (back k) w h (undone k n (w / 2) (h / 2) P) y))
+  pub row-highs : (y : ℕ) → y < h → AllWithin (backBound m m) (w / 2) (behind (w / 2) (colPass (back k) w h (walkBack (back k) n (w / 2) (h / 2) P) y))
   row-highs y p x q = column-back (w / 2 + x) y m (omega arith) p (λ i r. rest-right i (w / 2 + x) (omega arith) (omega arith) (omega arith))
 
-pub undo-within : (k : Kernel) (n w h m : ℕ) (P : Picture ℤ) → Halves n w h → Below m w h P → Below (undoBound m n) w h (undone k n w h P)
+pub undo-within : (k : Kernel) (n w h m : ℕ) (P : Picture ℤ) → Halves n w h → Below m w h P → Below (undoBound m n) w h (walkBack (back k) n w h P)
 unfolding walkBack Halves undoBound
 undo-within k zero w h m P s all = all
 undo-within k (suc n) w h m P s all =

@@ -10,10 +10,10 @@ use Rattle.kernel.specs.declared.Kernel.{Kernel}
 use Rattle.line.specs.Transform.{back}
 use Rattle.line.specs.Mask.{maskLine}
 use Rattle.line.proofs.Covered.{covered}
-use Rattle.grid.specs.Picture.{Picture, side, Halves, AgreeOn}
+use Rattle.grid.specs.Picture.{Picture, walk, side, Halves, AgreeOn}
 use Rattle.grid.proofs.Levels.{walk-add, halves-add, side-le}
 use Rattle.grid.proofs.Covered.{walk-covered}
-use Rattle.plane.specs.Plane.{maskOf, levelMask, levelPicture}
+use Rattle.plane.specs.Plane.{undone, maskOf, levelMask, levelPicture}
 use Rattle.plane.specs.Counts.{same, count, places}
 
 -- ---- counts
@@ -54,3 +54,13 @@ module _ (k : Kernel) (J W H : ℕ) (B : Picture Bool) (P P′ : Picture ℤ) (s
   pub level-exact : places (side j W) (side j H) (differs (levelMask k j W H B) (levelPicture k J j W H P) (levelPicture k J j W H P′)) ≡ 0
   level-exact = places-none (side j W) (side j H) _ (λ y x p q.
       nowhere (levelMask k j W H B y x) _ _ (λ t. level-agrees y x (omega (arith, side-le j H)) (omega (arith, side-le j W)) t))
+
+-- level 0: its mask is the region, and its picture the undone numbers
+module _ (k : Kernel) (J W H : ℕ) (B : Picture Bool) (P : Picture ℤ) where
+  pub region-level : levelMask k 0 W H B ≡ B
+  unfolding walk
+  region-level = refl
+
+  pub undone-level : levelPicture k J 0 W H P ≡ undone k J W H P
+  unfolding side
+  undone-level = let e : J - 0 ≡ J = omega arith in rw e

@@ -1,5 +1,5 @@
 -- The theorems on planes and masks.
-pub mod RoundTrip
+pub mod Inverse
 pub mod Levels
 pub mod Bounds
 pub mod Spare

@@ -1,7 +1,7 @@
 -- The laws by which a proof walks an ordered list of tests: `search ordered depth 20 fits 3000` answers each return of a chain of tests that
 -- returns the refusal of the first that holds. Assumes nothing.
 use mathlib.Core.Path.{_≡_, refl, sym, _∙_}
-use mathlib.Core.Bool.{Bool, true, false, not}
+use mathlib.Core.Bool.{Bool, true, false, not, false≢true}
 use mathlib.Core.List.{List, [], _∷_}
 use Prim.Native.Nat.{ℕ, suc, _<_}
 use native.Mathlib.Omega.{arith}
@@ -50,3 +50,9 @@ module _ {A : Type 0} {o : A} {f : ℕ → A} {l : List A} (ts : List Test) wher
 
   pub done : {l′ : List A} → 0 ≡ first ts → Result o true f l l′ → (0 ≡ first ts) × Result o (accepted ts) f l l′
   done e r = (e, rw (← e) r)
+
+-- ---- a call that is accepted: each test fails
+pub passes-test : (b : Bool) (n : ℕ) (ts : List Test) → accepted (test b (suc n) ∷ ts) ≡ true → (b ≡ false) × (accepted ts ≡ true)
+unfolding first
+passes-test false n ts e = (refl, e)
+passes-test true n ts e = absurd (false≢true (sym (eqb·suc-zero n) ∙ e))
