@@ -1,5 +1,6 @@
 -- The laws of pictures, passes and levels.
 pub mod Passes
+pub mod Running
 pub mod Levels
 pub mod Outside
 pub mod Back

@@ -1,16 +1,10 @@
--- The loops of the passes and their levels: what a strip of lines asks, what has been passed so far, and what the next level asks.
---
---   RowsPassed == the rows up to y are masked, all else is as it was
---   ColsPassed == the columns up to x are
---
--- Assumes nothing.
-use mathlib.Core.Path.{_≡_, ap, subst, _∙_}
+-- The loops of the passes and their levels: what a strip of lines asks, and the area while a pass runs and after it. Assumes nothing.
+use mathlib.Core.Path.{_≡_, ap, _∙_}
 use mathlib.Core.Bool.{Bool, true, false}
 use mathlib.Core.List.{List}
 use Prim.Native.Nat.{ℕ, _+_, _*_, _/_, _%_, _<_, _≤_}
 use native.Mathlib.Nat.{mul-le-mul-left, mul-le-mul-right, mul-one}
 use native.Mathlib.Omega.{arith}
-use lib.Arith.{digits-lt}
 use lib.Dec.{ltb}
 use lib.ListN.{length}
 use Rattle.kernel.specs.declared.Kernel.{Kernel}
@@ -18,11 +12,11 @@ use Rattle.line.specs.Cells.{choose}
 use Rattle.line.specs.Mask.{maskLine}
 use Rattle.marking.specs.Marks.{byte, marked, byteOf}
 use Rattle.grid.specs.Picture.{Picture, onLine, rowPass, turned, colPass}
-use Rattle.grid.specs.Buffer.{picture, InBuffer, Lines}
-use Rattle.grid.proofs.Passes.{cell-of, row-more, col-more}
+use Rattle.grid.specs.Buffer.{picture, InBuffer}
+use Rattle.grid.proofs.Passes.{cell-of}
+use Rattle.grid.proofs.Running.{RowsPassed, ColsPassed, row-places, col-places}
 use Rattle.masking.specs.Masks.{maskBytes}
 use Rattle.masking.specs.Areas.{Binary, Strips, Area}
-use Rattle.masking.proofs.Local.{bytes-local}
 
 -- ---- bytes that are marks, before a pass and after
 byte-most : (m : Bool) → byteOf m ≤ 1
@@ -95,12 +89,8 @@ module _ {W w h : ℕ} {l a b : List ℕ} (z : Area W w h l a b) where
     odds = omega (arith, z .w-most, z .b-room);
   }
 
-  pub row-places : (y : ℕ) → y < h → InBuffer l (y * W) 1 (2 * (w / 2)) 1
-  row-places y p = record {
-    some = omega arith;
-    apart = omega arith;
-    place = λ n j i r. omega (arith, digits-lt {q = y} {m = h} {r = n} {c = W} p (omega (arith, z .wide)), z .fits);
-  }
+  pub row-in : (y : ℕ) → y < h → InBuffer l (y * W) 1 (2 * (w / 2)) 1
+  row-in = row-places l W w h (z .wide) (z .fits)
 
   pub col-strips : h % 2 ≡ 0 → (c : ℕ) → c ≤ 16 → Strips (h / 2) c a b
   col-strips even c le =
@@ -110,58 +100,14 @@ module _ {W w h : ℕ} {l a b : List ℕ} (z : Area W w h l a b) where
         odds = omega (arith, z .h-most, z .b-room);
       }
 
-  pub col-places : (x c : ℕ) → 0 < c → x + c ≤ w → InBuffer l x W (2 * (h / 2)) c
-  col-places x c some le = record {
-    some = some;
-    apart = omega (arith, z .wide);
-    place = λ n j i r. omega (arith, digits-lt {q = n} {m = h} {r = x + j} {c = W} (omega arith) (omega (arith, z .wide)), z .fits);
-  }
+  pub col-in : (x c : ℕ) → 0 < c → x + c ≤ w → InBuffer l x W (2 * (h / 2)) c
+  col-in = col-places l W w h (z .wide) (z .fits)
 
--- ---- what has been passed
-pub record RowsPassed (k : Kernel) (W w h y : ℕ) (l₀ a₀ b₀ l a b : List ℕ) : Type 0 where
-  pub count : y ≤ h
-  pub same-l : length l ≡ length l₀
-  pub same-a : length a ≡ length a₀
-  pub same-b : length b ≡ length b₀
-  pub passed : picture 0 W l ≡ rowPass (maskBytes k) w y (picture 0 W l₀)
-
-pub record ColsPassed (k : Kernel) (W w h x : ℕ) (l₀ a₀ b₀ l a b : List ℕ) : Type 0 where
-  pub count : x ≤ w
-  pub same-l : length l ≡ length l₀
-  pub same-a : length a ≡ length a₀
-  pub same-b : length b ≡ length b₀
-  pub passed : turned (picture 0 W l) ≡ rowPass (maskBytes k) h x (turned (picture 0 W l₀))
-
-module _ {k : Kernel} {W w h y : ℕ} {l₀ a₀ b₀ l a b : List ℕ} (z : Area W w h l₀ a₀ b₀) (p : RowsPassed k W w h y l₀ a₀ b₀ l a b) where
+-- ---- the area while a pass runs
+module _ (k : Kernel) {W w h y : ℕ} {l₀ a₀ b₀ l a b : List ℕ} (z : Area W w h l₀ a₀ b₀) (p : RowsPassed 0 (maskBytes k) W w h y l₀ a₀ b₀ l a b) where
   pub rows-now : Area W w h l a b
   rows-now = rows-area l a b z (p .same-l) (p .same-a) (p .same-b) k y (p .passed)
 
-  pub rows-more : {l′ a′ b′ : List ℕ} → w % 2 ≡ 0 → y < h → Lines (maskBytes k) 0 (y * W) 1 (2 * (w / 2)) 1 l l′ → length a′ ≡ length a → length b′ ≡ length b
-      → RowsPassed k W w h (y + 1) l₀ a₀ b₀ l′ a′ b′
-  rows-more {l′} even lt f q r =
-      let e : 2 * (w / 2) ≡ w = omega arith in
-      let g : Lines (maskBytes k) 0 (y * W) 1 w 1 l l′ = subst (λ (n : ℕ). Lines (maskBytes k) 0 (y * W) 1 n 1 l l′) e f in
-      record {
-        count = omega arith;
-        same-l = f .size ∙ p .same-l;
-        same-a = q ∙ p .same-a;
-        same-b = r ∙ p .same-b;
-        passed = row-more 0 W (maskBytes k) (bytes-local k) l l′ w y (picture 0 W l₀) even (z .wide) g (p .passed);
-      }
-
-module _ {k : Kernel} {W w h x : ℕ} {l₀ a₀ b₀ l a b : List ℕ} (z : Area W w h l₀ a₀ b₀) (p : ColsPassed k W w h x l₀ a₀ b₀ l a b) where
+module _ (k : Kernel) {W w h x : ℕ} {l₀ a₀ b₀ l a b : List ℕ} (z : Area W w h l₀ a₀ b₀) (p : ColsPassed 0 (maskBytes k) W w h x l₀ a₀ b₀ l a b) where
   pub cols-now : Area W w h l a b
   cols-now = cols-area l a b z (p .same-l) (p .same-a) (p .same-b) k x (ap turned (p .passed))
-
-  pub cols-more : {l′ a′ b′ : List ℕ} → h % 2 ≡ 0 → (c : ℕ) → x + c ≤ w → Lines (maskBytes k) 0 x W (2 * (h / 2)) c l l′ → length a′ ≡ length a → length b′ ≡ length b
-      → ColsPassed k W w h (x + c) l₀ a₀ b₀ l′ a′ b′
-  cols-more {l′} even c le f q r =
-      let e : 2 * (h / 2) ≡ h = omega arith in
-      let g : Lines (maskBytes k) 0 x W h c l l′ = subst (λ (n : ℕ). Lines (maskBytes k) 0 x W n c l l′) e f in
-      record {
-        count = le;
-        same-l = f .size ∙ p .same-l;
-        same-a = q ∙ p .same-a;
-        same-b = r ∙ p .same-b;
-        passed = col-more 0 W (maskBytes k) (bytes-local k) l l′ h x c (turned (picture 0 W l₀)) even (omega (arith, z .wide)) g (p .passed);
-      }

@@ -1,6 +1,6 @@
 // The mask of a region: the line mask walked over rows and columns, level by level.
 ghost use mathlib.Core.Path.{_≡_};
-ghost use Prim.Native.Nat.{_*_, _-_, _/_, _%_, _<_, min};
+ghost use Prim.Native.Nat.{_*_, _-_, _/_, _%_, _<_};
 ghost use lib.ListN.{length};
 ghost use Rattle.grid.specs.Picture.{rowPass, colPass, walk, Halves};
 ghost use Rattle.grid.specs.Buffer.{picture, InBuffer, Lines};
@@ -12,9 +12,6 @@ use kernel::Choice;
 use kernel::Kernel;
 use refusal::Answer;
 use refusal::Refusal;
-
-// How many columns a strip has at most: as many as the transform's strips.
-const LANES: usize = 16;
 
 // Masks, in place, `lanes` lines of 2m marks, the first mark of line j at start + j, the others of it step apart.
 fn lines(
@@ -58,12 +55,6 @@ fn row_pass(
     }
 }
 
-fn least(x: usize, y: usize) -> usize
-    ensures { λ r. ⌜ r ≡ min x y ⌝ }
-{
-    if x < y { x } else { y }
-}
-
 // The column pass over the same area, a strip of columns at a time.
 fn col_pass(
     kernel: Kernel,
@@ -80,7 +71,7 @@ fn col_pass(
 {
     let mut x: usize = 0;
     while x < w {
-        let lanes = least(LANES, w - x);
+        let lanes = passes::least(passes::LANES, w - x);
         lines(kernel, buf, a, b, x, stride, h / 2, lanes);
         x += lanes;
     }

@@ -1,28 +1,23 @@
--- The loops of the passes: what a strip of lines asks, and what has been passed so far.
---
---   RowsPassed == the rows up to y are transformed, all else is as it was
---   ColsPassed == the columns up to x are
---
--- Assumes nothing.
-use mathlib.Core.Path.{_≡_, sym, ap, subst, _∙_}
+-- The loops of the passes: what a strip of lines asks, and that its numbers are taken within 32 bits. Assumes nothing.
+use mathlib.Core.Path.{_≡_, sym, ap, _∙_}
 use mathlib.Core.Bool.{Bool, true, false}
 use mathlib.Core.List.{List}
 use Prim.Native.Nat.{ℕ, _+_, _*_, _/_, _%_, _<_, _≤_}
 use native.Mathlib.Nat.{mul-le-mul-left}
 use native.Mathlib.Omega.{arith}
-use lib.Arith.{digits-lt}
 use lib.IntN.{ℤ, pos}
 use lib.ListN.{length, getD}
 use Rattle.kernel.specs.declared.Kernel.{Kernel}
 use Rattle.line.specs.Cells.{Line, Agree}
 use Rattle.line.proofs.Local.{forward-local, back-local}
 use Rattle.lifting.specs.Strip.{Strips}
-use Rattle.grid.specs.Picture.{Picture, rowPass, turned}
-use Rattle.grid.specs.Buffer.{picture, strided, InBuffer, Lines}
-use Rattle.grid.proofs.Passes.{Local, cell, pass-past, row-more, col-more}
+use Rattle.grid.specs.Picture.{Picture, Transform, turned}
+use Rattle.grid.specs.Buffer.{picture, strided, InBuffer}
+use Rattle.grid.proofs.Passes.{Local, cell, pass-past}
+use Rattle.grid.proofs.Running.{RowsPassed, ColsPassed, row-places, col-places}
 use Rattle.passes.specs.Passes.{lineOf, Takes, Area}
 
-line-local : (undo : Bool) (k : Kernel) → Local (lineOf undo k)
+pub line-local : (undo : Bool) (k : Kernel) → Local (lineOf undo k)
 line-local false k = λ w X Y even a. forward-local k w X Y even a
 line-local true k = λ w X Y even a. back-local k w X Y even a
 
@@ -31,20 +26,6 @@ takes-agree false w X Y even a t = record { takes = λ i h. rw (← a i h) (t .t
 takes-agree true w X Y even a t = record {
   takes = ((λ i h. rw (← a i (omega arith)) (t .takes .0 i h)), (λ i h. rw (← a (w / 2 + i) (omega arith)) (t .takes .1 i h)));
 }
-
-pub record RowsPassed (undo : Bool) (k : Kernel) (stride w h y : ℕ) (l₀ a₀ b₀ l a b : List ℤ) : Type 0 where
-  pub count : y ≤ h
-  pub same-l : length l ≡ length l₀
-  pub same-a : length a ≡ length a₀
-  pub same-b : length b ≡ length b₀
-  pub passed : picture (pos 0) stride l ≡ rowPass (lineOf undo k) w y (picture (pos 0) stride l₀)
-
-pub record ColsPassed (undo : Bool) (k : Kernel) (stride w h x : ℕ) (l₀ a₀ b₀ l a b : List ℤ) : Type 0 where
-  pub count : x ≤ w
-  pub same-l : length l ≡ length l₀
-  pub same-a : length a ≡ length a₀
-  pub same-b : length b ≡ length b₀
-  pub passed : turned (picture (pos 0) stride l) ≡ rowPass (lineOf undo k) h x (turned (picture (pos 0) stride l₀))
 
 pub area-same : {stride w h : ℕ} {l a b : List ℤ} (l′ a′ b′ : List ℤ) → Area stride w h l a b → length l′ ≡ length l → length a′ ≡ length a → length b′ ≡ length b → Area stride w h l′ a′ b′
 area-same l′ a′ b′ z p q r = record {
@@ -71,12 +52,8 @@ module _ {stride w h : ℕ} {l a b : List ℤ} (z : Area stride w h l a b) where
     odds = omega (arith, z .w-most, z .b-room);
   }
 
-  pub row-places : (y : ℕ) → y < h → InBuffer l (y * stride) 1 (2 * (w / 2)) 1
-  row-places y p = record {
-    some = omega arith;
-    apart = omega arith;
-    place = λ n j i r. omega (arith, digits-lt {q = y} {m = h} {r = n} {c = stride} p (omega (arith, z .wide)), z .fits);
-  }
+  pub row-in : (y : ℕ) → y < h → InBuffer l (y * stride) 1 (2 * (w / 2)) 1
+  row-in = row-places l stride w h (z .wide) (z .fits)
 
   pub col-strips : (c : ℕ) → c ≤ 16 → Strips (h / 2) c a b
   col-strips c le =
@@ -88,53 +65,23 @@ module _ {stride w h : ℕ} {l a b : List ℤ} (z : Area stride w h l a b) where
         odds = omega (arith, z .h-most, z .b-room);
       }
 
-  pub col-places : (x c : ℕ) → 0 < c → x + c ≤ w → InBuffer l x stride (2 * (h / 2)) c
-  col-places x c some le = record {
-    some = some;
-    apart = omega (arith, z .wide);
-    place = λ n j i r. omega (arith, digits-lt {q = n} {m = h} {r = x + j} {c = stride} (omega arith) (omega (arith, z .wide)), z .fits);
-  }
+  pub col-in : (x c : ℕ) → 0 < c → x + c ≤ w → InBuffer l x stride (2 * (h / 2)) c
+  col-in = col-places l stride w h (z .wide) (z .fits)
 
-module _ {undo : Bool} {k : Kernel} {stride w h y : ℕ} {l₀ a₀ b₀ l a b : List ℤ} (z : Area stride w h l₀ a₀ b₀) (p : RowsPassed undo k stride w h y l₀ a₀ b₀ l a b) where
+module _ {undo : Bool} {T : Transform ℤ} {stride w h y : ℕ} {l₀ a₀ b₀ l a b : List ℤ} (z : Area stride w h l₀ a₀ b₀) (p : RowsPassed (pos 0) T stride w h y l₀ a₀ b₀ l a b) where
   pub row-takes : ((v : ℕ) → v < h → Takes undo w (picture (pos 0) stride l₀ v)) → y < h → (j : ℕ) → j < 1 → Takes undo (2 * (w / 2)) (strided (pos 0) l (y * stride + j) 1)
   row-takes all lt j r =
       let e : 2 * (w / 2) ≡ w = omega (arith, z .even-w) in
       rw e (takes-agree undo w (picture (pos 0) stride l₀ y) _ (z .even-w)
       (λ i h. sym (ap (λ n. getD l n (pos 0)) (omega arith) ∙ sym (cell (pos 0) stride l y i (omega (arith, z .wide)))
-      ∙ ap (λ (P : Picture ℤ). P y i) (p .passed) ∙ ap (λ (X : Line ℤ). X i) (pass-past (lineOf undo k) w y y (picture (pos 0) stride l₀) (omega arith))))
+      ∙ ap (λ (P : Picture ℤ). P y i) (p .passed) ∙ ap (λ (X : Line ℤ). X i) (pass-past T w y y (picture (pos 0) stride l₀) (omega arith))))
       (all y lt))
 
-  pub rows-more : {l′ a′ b′ : List ℤ} → y < h → Lines (lineOf undo k) (pos 0) (y * stride) 1 (2 * (w / 2)) 1 l l′ → length a′ ≡ length a → length b′ ≡ length b
-      → RowsPassed undo k stride w h (y + 1) l₀ a₀ b₀ l′ a′ b′
-  rows-more {l′} lt f q r =
-      let e : 2 * (w / 2) ≡ w = omega (arith, z .even-w) in
-      let g : Lines (lineOf undo k) (pos 0) (y * stride) 1 w 1 l l′ = subst (λ (n : ℕ). Lines (lineOf undo k) (pos 0) (y * stride) 1 n 1 l l′) e f in
-      record {
-        count = omega arith;
-        same-l = f .size ∙ p .same-l;
-        same-a = q ∙ p .same-a;
-        same-b = r ∙ p .same-b;
-        passed = row-more (pos 0) stride (lineOf undo k) (line-local undo k) l l′ w y (picture (pos 0) stride l₀) (z .even-w) (z .wide) g (p .passed);
-      }
-
-module _ {undo : Bool} {k : Kernel} {stride w h x : ℕ} {l₀ a₀ b₀ l a b : List ℤ} (z : Area stride w h l₀ a₀ b₀) (p : ColsPassed undo k stride w h x l₀ a₀ b₀ l a b) where
+module _ {undo : Bool} {T : Transform ℤ} {stride w h x : ℕ} {l₀ a₀ b₀ l a b : List ℤ} (z : Area stride w h l₀ a₀ b₀) (p : ColsPassed (pos 0) T stride w h x l₀ a₀ b₀ l a b) where
   pub col-takes : ((v : ℕ) → v < w → Takes undo h (turned (picture (pos 0) stride l₀) v)) → (c : ℕ) → x + c ≤ w → (j : ℕ) → j < c → Takes undo (2 * (h / 2)) (strided (pos 0) l (x + j) stride)
   col-takes all c le j r =
       let e : 2 * (h / 2) ≡ h = omega (arith, z .even-h) in
       rw e (takes-agree undo h (turned (picture (pos 0) stride l₀) (x + j)) _ (z .even-h)
       (λ i h. sym (ap (λ n. getD l n (pos 0)) (omega arith) ∙ sym (cell (pos 0) stride l i (x + j) (omega (arith, z .wide)))
-      ∙ ap (λ (P : Picture ℤ). P (x + j) i) (p .passed) ∙ ap (λ (X : Line ℤ). X i) (pass-past (lineOf undo k) _ x (x + j) (turned (picture (pos 0) stride l₀)) (omega arith))))
+      ∙ ap (λ (P : Picture ℤ). P (x + j) i) (p .passed) ∙ ap (λ (X : Line ℤ). X i) (pass-past T _ x (x + j) (turned (picture (pos 0) stride l₀)) (omega arith))))
       (all (x + j) (omega arith)))
-
-  pub cols-more : {l′ a′ b′ : List ℤ} (c : ℕ) → x + c ≤ w → Lines (lineOf undo k) (pos 0) x stride (2 * (h / 2)) c l l′ → length a′ ≡ length a → length b′ ≡ length b
-      → ColsPassed undo k stride w h (x + c) l₀ a₀ b₀ l′ a′ b′
-  cols-more {l′} c le f q r =
-      let e : 2 * (h / 2) ≡ h = omega (arith, z .even-h) in
-      let g : Lines (lineOf undo k) (pos 0) x stride h c l l′ = subst (λ (n : ℕ). Lines (lineOf undo k) (pos 0) x stride n c l l′) e f in
-      record {
-        count = le;
-        same-l = f .size ∙ p .same-l;
-        same-a = q ∙ p .same-a;
-        same-b = r ∙ p .same-b;
-        passed = col-more (pos 0) stride (lineOf undo k) (line-local undo k) l l′ h x c (turned (picture (pos 0) stride l₀)) (z .even-h) (omega (arith, z .wide)) g (p .passed);
-      }

@@ -10,7 +10,7 @@ ghost use mathlib.Core.Bool.{true, false};
 use kernel::Kernel;
 
 // How many columns a strip has at most: a row of it is what a cache line holds.
-const LANES: usize = 16;
+pub const LANES: usize = 16;
 
 // Transforms, in place, `lanes` lines of 2m numbers, the first number of line j at start + j, the others of it step apart.
 fn lines_forward(
@@ -101,7 +101,8 @@ pub fn row_pass(
     }
 }
 
-fn least(x: usize, y: usize) -> usize
+// The smaller of two numbers.
+pub fn least(x: usize, y: usize) -> usize
     ensures { λ r. ⌜ r ≡ min x y ⌝ }
 {
     if x < y { x } else { y }

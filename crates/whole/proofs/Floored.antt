@@ -6,8 +6,8 @@ use Prim.Native.Nat.{ℕ, zero, suc, _+_, _*_, _-_, _/_, _%_, _<_, _≤_}
 use native.Mathlib.Omega.{arith}
 use native.Mathlib.Nat.{div-add-mod', mod-lt, div-le-self, div-eq-of-lt-le, zero-div}
 use lib.Dec.{T, ltb}
-use lib.IntN.{ℤ, pos, negsuc, negℤ, _+ℤ_, _-ℤ_, _*ℤ_, +ℤ-one, +ℤ-negℤ-cancel}
-use lib.Signed.{_≤ℤ_, _<ℤ_, shrZ, mag-shr, quotZ}
+use lib.IntN.{ℤ, pos, negsuc, negℤ, _+ℤ_, _-ℤ_, +ℤ-one, +ℤ-negℤ-cancel}
+use lib.Signed.{shrZ, mag-shr, quotZ}
 use mir.Syntax.{Width, w64}
 use mir.Val.{SFits}
 use mir.ValLaws.{sfits-le}
@@ -50,9 +50,6 @@ unfolding floorDiv
 floor-shift (pos a) d = refl
 floor-shift (negsuc a) d = refl
 
-pub floor-half : (a b : ℤ) → floorDiv (a +ℤ b) 2 ≡ b +ℤ floorDiv (a -ℤ b) 2
-floor-half a b = rw (ι-split a, ι-split b) (simp whole (omega arith))
-
 pub fits-shift : (w : Width) (z : ℤ) (d : ℕ) → SFits w z → SFits w (shrZ z d)
 fits-shift w z d f = sfits-le (mag-shr z d) f
 
@@ -80,16 +77,6 @@ quot-down (negsuc a) d h = ap (λ (z : ℤ). quotZ z (pos d)) one-up ∙ down a 
     down : (n : ℕ) → quotZ (negℤ (pos n)) (pos d) ≡ negℤ (pos (n / d))
     down zero = ap pos (zero-div d) ∙ sym (ap (λ (m : ℕ). negℤ (pos m)) (zero-div d))
     down (suc n) = refl
-
--- d · q ≤ z < d · q + d
-bounds : (k a b : ℕ) → let q = (a + k * b) / suc k in (q * suc k + b ≤ a + b * suc k) × (a + b * suc k < q * suc k + b + suc k)
-bounds k a b = let e = div-add-mod' (a + k * b) (suc k) in let l : (a + k * b) % suc k < suc k = mod-lt (a + k * b) (omega arith) in omega arith
-
-pub floor-low : (z : ℤ) (k : ℕ) → (pos (suc k) *ℤ floorDiv z (suc k)) ≤ℤ z
-floor-low z k = rw (ι-split z, floor-parts (ι (up z) (dn z)) k (up z) (dn z) (parts (up z) (dn z) .balance)) (simp lin (omega (arith, bounds k (up z) (dn z))))
-
-pub floor-high : (z : ℤ) (k : ℕ) → z <ℤ (pos (suc k) *ℤ floorDiv z (suc k) +ℤ pos (suc k))
-floor-high z k = rw (ι-split z, floor-parts (ι (up z) (dn z)) k (up z) (dn z) (parts (up z) (dn z) .balance)) (simp lin (omega (arith, bounds k (up z) (dn z))))
 
 -- ---- the steps of a floor division by the language's own: of a number below 0, one more is divided, and one is taken off
 module _ (x : ℤ) (below : up x < dn x) (f : SFits w64 x) where

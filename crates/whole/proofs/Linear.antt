@@ -1,15 +1,15 @@
 -- Linear arithmetic on ℤ, by way of ℕ: a whole number is a difference of two naturals.
 -- Assumes nothing.
 use mathlib.Core.Logic.{_↔_}
-use mathlib.Core.Path.{_≡_, sym, ap, _∙_, subst}
+use mathlib.Core.Path.{_≡_, sym, ap, subst}
 use mathlib.Core.Bool.{Bool, true, false, not, cond}
 use Prim.Native.Nat.{ℕ, zero, suc, _+_, _*_, _-_, _^_, _<_, _≤_}
 use native.Mathlib.Omega.{arith}
-use lib.Dec.{T, ltb, leb, ltb→lt, nltb→le, le→leb, leb→le, lt→ltb, nleb→lt}
+use lib.Dec.{T, ltb, ltb→lt, nltb→le, le→leb, leb→le, lt→ltb, nleb→lt}
 use lib.IntN.{ℤ, pos, negsuc, negℤ, subℕ, _+ℤ_, _-ℤ_, _*ℤ_, natAbs}
 use lib.Signed.{mag, _≤ℤ_, _<ℤ_, leZ, ltZ, nonNeg}
 use mir.Syntax.{Width, w32, w64}
-use mir.Val.{Fits, SFits, hbits, toZ, ofZ}
+use mir.Val.{Fits, SFits, hbits}
 use mir.Facts.{toZ-ofZ}
 use borrow.Author.Needs.{sfits-of}
 use Rattle.whole.specs.Within.{up, dn, Within}
@@ -41,9 +41,6 @@ parts-eq (pos a) (pos b) e = ap pos (omega arith)
 parts-eq (pos a) (negsuc b) e = absurd (omega arith)
 parts-eq (negsuc a) (pos b) e = absurd (omega arith)
 parts-eq (negsuc a) (negsuc b) e = ap negsuc (omega arith)
-
-pub Parts-eq : {x y : ℤ} {a b : ℕ} → Parts x a b → Parts y a b → x ≡ y
-Parts-eq {x} {y} p q = parts-eq x y (omega arith)
 
 add-parts : (x y : ℤ) → Parts (x +ℤ y) (up x + up y) (dn x + dn y)
 add-parts (pos a) (pos b) = record { balance = omega arith }
@@ -165,9 +162,6 @@ pub ruleset lin = (ι-add, ι-neg, ι-mul, ι-pos, ι-negsuc, ι-eq, ι-sfits, �
 pub widen : {z : ℤ} → SFits w32 z → SFits w64 z
 widen s = let h = s .sfits in record { sfits = omega arith }
 
-pub within-le : (m n : ℕ) {z : ℤ} → Within m z → T (leb m n) → Within n z
-within-le m n w t = let h = leb→le m n t in let p = w .hi in let q = w .lo in record { hi = omega arith; lo = omega arith }
-
 -- ---- a test of two signed numbers that held, or failed
 pub le-true : (x y : ℤ) → leZ x y ≡ true → up x + dn y ≤ up y + dn x
 le-true x y t = of-le x y (subst T (sym t) tt)
@@ -205,13 +199,6 @@ pub ruleset reading = (toZ-ofZ, sfits-of, widened, tt)
 pub within-fits : {n : ℕ} {z : ℤ} (w : Width) → T (ltb n (2 ^ hbits w)) → Within n z → SFits w z
 within-fits {n} {z} w t p = let h = ltb→lt n (2 ^ hbits w) t in let q = p .hi in let r = p .lo in record { sfits = small-of z (2 ^ hbits w) (omega arith) (omega arith) }
 
-pub within-read : {n : ℕ} {z : ℤ} (w : Width) → T (ltb n (2 ^ hbits w)) → Within n z → Within n (toZ w (ofZ w z))
-within-read {n} {z} w t p = subst (Within n) (sym (toZ-ofZ (within-fits w t p))) p
-
--- a test `==` of two signed numbers is one of their bits
-pub bits-eq : {w : Width} {x y : ℤ} → SFits w x → SFits w y → ofZ w x ≡ ofZ w y → x ≡ y
-bits-eq {w} f g e = sym (toZ-ofZ f) ∙ ap (toZ w) e ∙ toZ-ofZ g
-
 -- a number that is not negative, cast to an unsigned type
 pub above-nonNeg : (z : ℤ) → dn z ≤ up z → T (nonNeg z)
 above-nonNeg (pos n) h = tt
@@ -230,15 +217,9 @@ pub in-other : (z : ℤ) → up z < dn z → up z ≡ 0
 in-other (pos n) h = omega arith
 in-other (negsuc n) h = omega arith
 
-pub not-zero : {w : Width} {x : ℤ} → SFits w x → (ofZ w x ≡ 0 → ⊥) → up x ≡ dn x → ⊥
-not-zero {w} {x} f n e = n (ap (ofZ w) (parts-eq x (pos 0) (omega arith)))
-
 pub below-neg : (x : ℤ) → up x < dn x → pos 0 -ℤ x ≡ pos (natAbs x)
 below-neg (pos a) h = absurd (omega arith)
 below-neg (negsuc a) h = ap pos (omega arith)
-
-pub within-eq : {n : ℕ} {x y : ℤ} → x ≡ y → Within n y → Within n x
-within-eq {n} e p = subst (Within n) (sym e) p
 
 pub natAbs-fits : (z : ℤ) → SFits w32 z → Fits w64 (natAbs z)
 natAbs-fits (pos n) f = omega (arith, f .sfits)

@@ -1,16 +1,18 @@
 -- `masking::col_pass` masks the columns of an area, a strip at a time. Assumes nothing.
-use mathlib.Core.Path.{_≡_, refl, ap}
+use mathlib.Core.Path.{_≡_, ap}
 use Prim.Native.Nat.{_-_}
 use native.Mathlib.Omega.{arith}
 use borrow.Author.Needs.{needs}
 use Rattle.grid.specs.Picture.{turned}
-use Rattle.grid.proofs.Passes.{pass-none}
-use Rattle.masking.proofs.Running.{ColsPassed, col-strips, col-places, cols-now, cols-more}
+use Rattle.grid.proofs.Running.{ColsPassed, cols-none, cols-more}
+use Rattle.masking.specs.Masks.{maskBytes}
+use Rattle.masking.proofs.Local.{bytes-local}
+use Rattle.masking.proofs.Running.{col-strips, col-in, cols-now}
 use Rattle.masking.proofs.col_pass.Statement.{statement}
 use Rattle.masking.proofs.col_pass.Tie as tie
 
 abbrev Inv-loop : tie.InvT-loop
-Inv-loop kernel buf₀ a₀ b₀ stride w h x₀ buf a b x = ColsPassed kernel stride w h x buf₀ a₀ b₀ buf a b
+Inv-loop kernel buf₀ a₀ b₀ stride w h x₀ buf a b x = ColsPassed 0 (maskBytes kernel) stride w h x buf₀ a₀ b₀ buf a b
 
 abbrev μ-loop : tie.MeasureT-loop
 μ-loop kernel buf₀ a₀ b₀ stride w h x₀ buf a b x = w - x
@@ -20,15 +22,15 @@ col-pass-spec =
     tie.close (tie.spec
     Inv-loop
     μ-loop
-    (λ c. record { count = omega arith; same-l = refl; same-a = refl; same-b = refl; passed = pass-none _ _ _ })
+    (λ c. cols-none _ _ _ _ _ _ _ _)
     (λ c. omega arith)
     (λ c κs. search needs)
-    (λ c κs. let s = c .before .before .before .before .before .before .before .before .before in let l = c .before .before .before .before .before .loop in let n = c .before .before .before .least in let z = cols-now (s .pre .0) (l .inv) in
-    (col-places z (l .x) (n .result) (omega (arith, n .ensures)) (omega (arith, n .ensures)), (col-strips z (s .pre .1) (n .result) (omega (arith, n .ensures)), z .marks)))
+    (λ c κs. let s = c .before .before .before .before .before .before .before .before .before in let l = c .before .before .before .before .before .loop in let n = c .before .before .before .least in let z = cols-now (s .args .kernel) (s .pre .0) (l .inv) in
+    (col-in z (l .x) (n .result) (omega (arith, n .ensures)) (omega (arith, n .ensures)), (col-strips z (s .pre .1) (n .result) (omega (arith, n .ensures)), z .marks)))
     (λ c. omega (arith, c .before .before .before .before .before .before .before .before .before .before .least .ensures))
     (λ c. omega (arith, c .before .before .before .before .before .before .before .before .before .before .least .ensures))
     (λ c. let s = c .before .before .before .before .before .before .before .before .before .before .before .before .before .before .before .before in let l = c .before .before .before .before .before .before .before .before .before .before .before .before .loop in let n = c .before .before .before .before .before .before .before .before .before .before .least in let r = c .before .before .before .before .before .before .lines in
-    cols-more (s .pre .0) (l .inv) (s .pre .1) (n .result) (omega (arith, n .ensures)) (r .ensures) (r .kept .1 .1 .0) (r .kept .1 .1 .1 .0))
+    cols-more (bytes-local (s .args .kernel)) (s .pre .1) (s .pre .0 .wide) (l .inv) (n .result) (omega (arith, n .ensures)) (r .ensures) (r .kept .1 .1 .0) (r .kept .1 .1 .1 .0))
     (λ c. c .before .loop .inv .same-l)
     (λ c. c .before .loop .inv .same-a)
     (λ c. c .before .loop .inv .same-b)

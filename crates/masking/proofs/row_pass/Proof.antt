@@ -1,14 +1,16 @@
 -- `masking::row_pass` masks the rows of an area. Assumes nothing.
-use mathlib.Core.Path.{_≡_, refl}
+use mathlib.Core.Path.{_≡_}
 use Prim.Native.Nat.{_-_}
 use native.Mathlib.Omega.{arith}
-use Rattle.grid.proofs.Passes.{pass-none}
-use Rattle.masking.proofs.Running.{RowsPassed, row-strips, row-places, rows-now, rows-more}
+use Rattle.grid.proofs.Running.{RowsPassed, rows-none, rows-more}
+use Rattle.masking.specs.Masks.{maskBytes}
+use Rattle.masking.proofs.Local.{bytes-local}
+use Rattle.masking.proofs.Running.{row-strips, row-in, rows-now}
 use Rattle.masking.proofs.row_pass.Statement.{statement}
 use Rattle.masking.proofs.row_pass.Tie as tie
 
 abbrev Inv-loop : tie.InvT-loop
-Inv-loop kernel buf₀ a₀ b₀ stride w h y₀ buf a b y = RowsPassed kernel stride w h y buf₀ a₀ b₀ buf a b
+Inv-loop kernel buf₀ a₀ b₀ stride w h y₀ buf a b y = RowsPassed 0 (maskBytes kernel) stride w h y buf₀ a₀ b₀ buf a b
 
 abbrev μ-loop : tie.MeasureT-loop
 μ-loop kernel buf₀ a₀ b₀ stride w h y₀ buf a b y = h - y
@@ -18,15 +20,15 @@ row-pass-spec =
     tie.close (tie.spec
     Inv-loop
     μ-loop
-    (λ c. record { count = omega arith; same-l = refl; same-a = refl; same-b = refl; passed = pass-none _ _ _ })
+    (λ c. rows-none _ _ _ _ _ _ _ _)
     (λ c. let s = c .before .before .before .before .before .before .before .before in let z = s .pre .0 in let y = c .before .before .before .before .loop .y in
-    omega (arith, row-places z y (omega arith) .place 0 0 (omega (arith, z .some-w, s .pre .1)) (omega arith)))
-    (λ c κs. let s = c .before .before .before .before .before .before .before .before in let l = c .before .before .before .before .loop in let z = rows-now (s .pre .0) (l .inv) in
-    (row-places z (l .y) (omega arith), (row-strips z (s .pre .1), z .marks)))
+    omega (arith, row-in z y (omega arith) .place 0 0 (omega (arith, z .some-w, s .pre .1)) (omega arith)))
+    (λ c κs. let s = c .before .before .before .before .before .before .before .before in let l = c .before .before .before .before .loop in let z = rows-now (s .args .kernel) (s .pre .0) (l .inv) in
+    (row-in z (l .y) (omega arith), (row-strips z (s .pre .1), z .marks)))
     (λ c. omega arith)
     (λ c. omega arith)
     (λ c. let s = c .before .before .before .before .before .before .before .before .before .before .before .before .before .before .before in let l = c .before .before .before .before .before .before .before .before .before .before .before .loop in let r = c .before .before .before .before .before .before .lines in
-    rows-more (s .pre .0) (l .inv) (s .pre .1) (omega arith) (r .ensures) (r .kept .1 .1 .0) (r .kept .1 .1 .1 .0))
+    rows-more (bytes-local (s .args .kernel)) (s .pre .1) (s .pre .0 .wide) (l .inv) (omega arith) (r .ensures) (r .kept .1 .1 .0) (r .kept .1 .1 .1 .0))
     (λ c. c .before .loop .inv .same-l)
     (λ c. c .before .loop .inv .same-a)
     (λ c. c .before .loop .inv .same-b)

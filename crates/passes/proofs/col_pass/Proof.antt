@@ -1,16 +1,18 @@
 -- `passes::col_pass` transforms the columns of an area, or takes them back, a strip at a time. Assumes nothing.
 use native.Mathlib.Omega.{arith}
-use mathlib.Core.Path.{_≡_, refl, ap}
+use mathlib.Core.Path.{_≡_, ap}
 use Prim.Native.Nat.{_-_}
 use borrow.Author.Needs.{needs}
+use lib.IntN.{pos}
 use Rattle.grid.specs.Picture.{turned}
-use Rattle.grid.proofs.Passes.{pass-none}
-use Rattle.passes.proofs.Running.{ColsPassed, area-same, col-strips, col-places, col-takes, cols-more}
+use Rattle.grid.proofs.Running.{ColsPassed, cols-none, cols-more}
+use Rattle.passes.specs.Passes.{lineOf}
+use Rattle.passes.proofs.Running.{line-local, area-same, col-strips, col-in, col-takes}
 use Rattle.passes.proofs.col_pass.Statement.{statement}
 use Rattle.passes.proofs.col_pass.Tie as tie
 
 abbrev Inv-loop : tie.InvT-loop
-Inv-loop kernel undo buf₀ a₀ b₀ stride w h x₀ buf a b x = ColsPassed undo kernel stride w h x buf₀ a₀ b₀ buf a b
+Inv-loop kernel undo buf₀ a₀ b₀ stride w h x₀ buf a b x = ColsPassed (pos 0) (lineOf undo kernel) stride w h x buf₀ a₀ b₀ buf a b
 
 abbrev μ-loop : tie.MeasureT-loop
 μ-loop kernel undo buf₀ a₀ b₀ stride w h x₀ buf a b x = w - x
@@ -20,14 +22,14 @@ col-pass-spec =
     tie.close (tie.spec
     Inv-loop
     μ-loop
-    (λ c. record { count = omega arith; same-l = refl; same-a = refl; same-b = refl; passed = pass-none _ _ _ })
+    (λ c. cols-none _ _ _ _ _ _ _ _)
     (λ c. omega arith)
     (λ c κs. search needs)
     (λ c κs. let s = c .before .before .before .before .before .before in let l = c .before .before .before .before .before .loop in let p = l .inv in let z = area-same (l .buf) (l .a) (l .b) (s .pre .0) (p .same-l) (p .same-a) (p .same-b) in let n = c .before .before .before .least in
-    (col-places z (l .x) (n .result) (omega (arith, n .ensures)) (omega (arith, n .ensures)), (col-strips z (n .result) (omega (arith, n .ensures)), col-takes (s .pre .0) p (s .pre .1) (n .result) (omega (arith, n .ensures)))))
+    (col-in z (l .x) (n .result) (omega (arith, n .ensures)) (omega (arith, n .ensures)), (col-strips z (n .result) (omega (arith, n .ensures)), col-takes (s .pre .0) p (s .pre .1) (n .result) (omega (arith, n .ensures)))))
     (λ c. omega (arith, c .before .before .before .before .before .before .before .least .ensures))
     (λ c. omega (arith, c .before .before .before .before .before .before .before .least .ensures))
-    (λ c. let s = c .before .before .before .before .before .before .before .before .before .before in let l = c .before .before .before .before .before .before .before .before .before .loop in let n = c .before .before .before .before .before .before .before .least in let k = c .before .before .before .lines .kept in cols-more (s .pre .0) (l .inv) (n .result) (omega (arith, n .ensures)) (c .before .before .before .lines .ensures) (k .1 .1 .1 .0) (k .1 .1 .1 .1 .0))
+    (λ c. let s = c .before .before .before .before .before .before .before .before .before .before in let l = c .before .before .before .before .before .before .before .before .before .loop in let n = c .before .before .before .before .before .before .before .least in let k = c .before .before .before .lines .kept in cols-more (line-local (s .args .undo) (s .args .kernel)) (s .pre .0 .even-h) (s .pre .0 .wide) (l .inv) (n .result) (omega (arith, n .ensures)) (c .before .before .before .lines .ensures) (k .1 .1 .1 .0) (k .1 .1 .1 .1 .0))
     (λ c. c .before .loop .inv .same-l)
     (λ c. c .before .loop .inv .same-a)
     (λ c. c .before .loop .inv .same-b)
