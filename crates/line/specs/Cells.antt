@@ -8,11 +8,12 @@
 --   behind m X      == the cells of X from m on
 --   evens X, odds X == X(2n) and X(2n+1), as lines
 --   paired E O      == the line with these evens and odds
+--   count n B       == how many of the first n cells B marks
 --
 -- Assumes nothing: these are definitions.
 use mathlib.Core.Path.{_≡_}
 use mathlib.Core.Bool.{Bool, true, false}
-use Prim.Native.Nat.{ℕ, _+_, _*_, _-_, _/_, _%_, _<_}
+use Prim.Native.Nat.{ℕ, zero, suc, _+_, _*_, _-_, _/_, _%_, _<_}
 use lib.Dec.{ltb, eqb}
 
 abbrev pub Line : Type 0 → Type 0
@@ -42,3 +43,7 @@ odds X n = X (2 * n + 1)
 
 unfoldable pub paired : {A : Type 0} → Line A → Line A → Line A
 paired E O x = choose (eqb (x % 2) 0) (E (x / 2)) (O (x / 2))
+
+unfoldable pub count : ℕ → Line Bool → ℕ
+count zero B = 0
+count (suc n) B = count n B + choose (B n) 1 0

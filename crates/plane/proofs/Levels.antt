@@ -14,7 +14,8 @@ use Rattle.grid.specs.Picture.{Picture, walk, side, Halves, AgreeOn}
 use Rattle.grid.proofs.Levels.{walk-add, halves-add, side-le}
 use Rattle.grid.proofs.Covered.{walk-covered}
 use Rattle.plane.specs.Plane.{undone, maskOf, levelMask, levelPicture}
-use Rattle.plane.specs.Counts.{same, count, places}
+use Rattle.line.specs.Cells.{count}
+use Rattle.plane.specs.Counts.{same, places}
 
 -- ---- counts
 same-self : (a : ℤ) → same a a ≡ true

@@ -1,7 +1,6 @@
 -- Counting places of a picture.
 --
 --   same a b      == a and b are the same whole number
---   count n f     == how many numbers below n satisfy f
 --   places w h F  == how many places of w by h satisfy F
 --
 -- Assumes nothing: these are definitions.
@@ -9,7 +8,7 @@ use mathlib.Core.Bool.{Bool, false}
 use Prim.Native.Nat.{ℕ, zero, suc, _+_}
 use lib.Dec.{eqb}
 use lib.IntN.{ℤ, pos, negsuc}
-use Rattle.line.specs.Cells.{choose}
+use Rattle.line.specs.Cells.{count}
 use Rattle.grid.specs.Picture.{Picture}
 
 unfoldable pub same : ℤ → ℤ → Bool
@@ -17,10 +16,6 @@ same (pos a) (pos b) = eqb a b
 same (pos a) (negsuc b) = false
 same (negsuc a) (pos b) = false
 same (negsuc a) (negsuc b) = eqb a b
-
-unfoldable pub count : ℕ → (ℕ → Bool) → ℕ
-count zero f = 0
-count (suc n) f = count n f + choose (f n) 1 0
 
 unfoldable pub places : ℕ → ℕ → Picture Bool → ℕ
 places w zero F = 0

@@ -5,7 +5,8 @@ use Prim.Native.Nat.{ℕ, zero, suc, _*_, _/_, _^_, _<_, _≤_}
 use native.Mathlib.Nat.{div-mul-le-self}
 use native.Mathlib.Omega.{arith}
 use lib.IntN.{ℤ, pos, negsuc, negℤ, natAbs}
-use Rattle.samples.specs.Samples.{dropped, truncated}
+use Rattle.bitplane.specs.Bits.{sign, signed, dropped}
+use Rattle.samples.specs.Samples.{truncated}
 
 pub truncated-marked : (q : ℕ) (z : ℤ) → truncated q true z ≡ z
 truncated-marked q z = refl
@@ -16,7 +17,7 @@ minus-abs (suc n) = refl
 
 -- a magnitude only falls
 dropped-le : (q : ℕ) (z : ℤ) → natAbs (dropped q z) ≤ natAbs z
-unfolding dropped
+unfolding dropped sign signed
 dropped-le q (pos a) = div-mul-le-self a (2 ^ q)
 dropped-le q (negsuc a) = rw (minus-abs (suc a / 2 ^ q * 2 ^ q)) (div-mul-le-self (suc a) (2 ^ q))
 

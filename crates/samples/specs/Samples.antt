@@ -1,7 +1,6 @@
 -- Bringing undone numbers into range, and dropping planes (document 01, "Levels" and "Truncation and the stream").
 --
 --   inRange D z         == z brought into 0 .. 2^D − 1: below to 0, above to the top
---   dropped q z         == z's sign times floor(|z| / 2^q) · 2^q
 --   truncated q m z     == z, where it is marked, else dropped q z
 --   showTests           == the refusals of showing, in document 01's order: 3, 4, 5
 --   truncateTests       == the refusals of truncation: 3, 4, 5, 9, 10
@@ -9,20 +8,17 @@
 -- Assumes nothing: these are definitions.
 use mathlib.Core.Bool.{Bool}
 use mathlib.Core.List.{List, [], _∷_}
-use Prim.Native.Nat.{ℕ, suc, _*_, _-_, _/_, _^_, min}
-use lib.IntN.{ℤ, pos, negsuc, negℤ}
+use Prim.Native.Nat.{ℕ, _-_, _^_, min}
+use lib.IntN.{ℤ, pos, negsuc}
 use lib.ListN.{length}
 use Rattle.line.specs.Cells.{choose}
+use Rattle.bitplane.specs.Bits.{dropped}
 use Rattle.refusal.specs.Numbers.{Test, test}
 use Rattle.refusal.specs.Tests.{badDepth, badDrop, badSize, badLength, badMark, badMagnitude}
 
 unfoldable pub inRange : ℕ → ℤ → ℕ
 inRange D (pos a) = min a (2 ^ D - 1)
 inRange D (negsuc a) = 0
-
-unfoldable pub dropped : ℕ → ℤ → ℤ
-dropped q (pos a) = pos (a / 2 ^ q * 2 ^ q)
-dropped q (negsuc a) = negℤ (pos (suc a / 2 ^ q * 2 ^ q))
 
 abbrev pub truncated : ℕ → Bool → ℤ → ℤ
 truncated q m z = choose m z (dropped q z)

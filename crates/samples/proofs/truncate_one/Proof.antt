@@ -3,7 +3,7 @@ use borrow.Author.Needs.{needs, sfits-of}
 use borrow.Author.Tests.{eq-eqb, ne-eqb}
 use mathlib.Core.Path.{ap, _∙_}
 use mir.Facts.{toZ-ofZ}
-use Rattle.samples.specs.Samples.{dropped}
+use Rattle.bitplane.specs.Bits.{dropped}
 use Rattle.samples.proofs.truncate_one.Statement.{statement}
 use Rattle.samples.proofs.truncate_one.Tie as tie
 

@@ -1,0 +1,4 @@
+-- What the contracts on bit planes cite.
+pub mod Bits
+pub mod Body
+pub mod Reader

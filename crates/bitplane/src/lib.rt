@@ -1,0 +1,1 @@
+// The body of a codestream as definitions, with their theorems: bit planes in passes, written and read.
