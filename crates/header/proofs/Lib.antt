@@ -1,0 +1,4 @@
+-- The laws of headers.
+pub mod Numbers
+pub mod Parts
+pub mod Fields

@@ -1,0 +1,3 @@
+-- What the contracts on headers cite.
+pub mod Header
+pub mod Fields
