@@ -47,7 +47,7 @@ pub binary-append : (l m : List ℕ) → Binary l → Binary m → Binary (l ++ 
 binary-append [] m b c = c
 binary-append (x ∷ l) m b c = binary-cons x (l ++ m) (b 0) (binary-append l m (λ i. b (suc i)) c)
 
-sign-binary : (z : ℤ) → sign z < 2
+pub sign-binary : (z : ℤ) → sign z < 2
 unfolding sign
 sign-binary (pos n) = omega arith
 sign-binary (negsuc n) = omega arith

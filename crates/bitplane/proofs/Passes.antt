@@ -46,7 +46,7 @@ unfolding signed
 signed-zero zero = refl
 signed-zero (suc s) = refl
 
-zero-either : (a : Bool) → choose a (pos 0) (pos 0) ≡ pos 0
+pub zero-either : (a : Bool) → choose a (pos 0) (pos 0) ≡ pos 0
 zero-either true = refl
 zero-either false = refl
 

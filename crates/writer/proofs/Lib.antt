@@ -1,0 +1,3 @@
+-- The laws of the writer.
+pub mod Bits
+pub mod Passes
