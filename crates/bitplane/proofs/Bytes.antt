@@ -1,5 +1,5 @@
 -- Bits in bytes: the bytes of a body carry its bits. Assumes nothing.
-use mathlib.Core.Path.{_≡_, ap, _∙_}
+use mathlib.Core.Path.{_≡_, refl, sym, ap, _∙_}
 use mathlib.Core.List.{List, [], _∷_, _++_}
 use mathlib.Core.Bool.{Bool, true, false}
 use Prim.Native.Nat.{ℕ, zero, suc, _+_, _*_, _-_, _/_, _%_, _^_, _<_}
@@ -10,7 +10,7 @@ use lib.ListN.{length, getD}
 use Rattle.line.specs.Cells.{choose}
 use Rattle.bitplane.specs.Bits.{bitOf, bitAt, gathered, byteAt, bytes, sign}
 use Rattle.bitplane.specs.Body.{Pass, Order, signAfter, code, passBits, body}
-use Rattle.bitplane.proofs.Passes.{Carries}
+use Rattle.bitplane.proofs.Passes.{Carries, halved}
 
 -- digit k, from the highest on, of n bits gathered
 gathered-bit : (b : ℕ → ℕ) (p n k e : ℕ) → ((i : ℕ) → b i < 2) → k + suc e ≡ n → bitOf e (gathered b p n) ≡ b (p + k)
@@ -21,6 +21,14 @@ gathered-bit b p (suc n) k (suc e) s h =
     let g : (gathered b p n * 2 + b (p + n)) / 2 ≡ gathered b p n = omega (arith, s (p + n)) in
     rw (pow-succ' 2 e, ← div-div-eq-div-mul (gathered b p n * 2 + b (p + n)) 2 (2 ^ e), g) (gathered-bit b p n k e s (omega arith))
 
+-- a byte is gathered from its bits
+byte-gathered : (b : ℕ → ℕ) (p x n e : ℕ) → x < 256 → e + n ≡ 8 → ((k : ℕ) → k < n → b (p + k) ≡ bitOf (7 - k) x) → gathered b p n ≡ x / 2 ^ e
+unfolding gathered
+byte-gathered b p x zero e s h f = let d : e ≡ 8 = omega arith in rw d (omega arith)
+byte-gathered b p x (suc n) e s h f =
+    let d : 7 - n ≡ e = omega arith in
+    rw (byte-gathered b p x n (suc e) s (omega arith) (λ k l. f k (omega arith)), halved e x, f n (omega arith), d) (omega arith)
+
 -- ---- bits are 0 and 1
 abbrev pub Binary : List ℕ → Type 0
 Binary l = (i : ℕ) → getD l i 0 < 2
@@ -28,6 +36,14 @@ Binary l = (i : ℕ) → getD l i 0 < 2
 -- ---- bytes m that begin with the bits l
 abbrev pub Holds : List ℕ → List ℕ → Type 0
 Holds l m = (j : ℕ) → j < bytes (length l) → getD m j 0 ≡ byteAt l j
+
+-- bytes that have these bits
+pub bits-hold : (l m : List ℕ) → ((j : ℕ) → getD m j 0 < 256) → ((p : ℕ) → p < 8 * bytes (length l) → bitAt m p ≡ getD l p 0) → Holds l m
+unfolding bitAt
+bits-hold l m s f j h =
+    let each : (k : ℕ) → k < 8 → getD l (8 * j + k) 0 ≡ bitOf (7 - k) (getD m j 0)
+    = λ k b. let d : (8 * j + k) / 8 ≡ j = omega arith in let e : (8 * j + k) % 8 ≡ k = omega arith in sym (rw (d, e) at (f (8 * j + k) (omega arith))) in
+    sym (byte-gathered (λ i. getD l i 0) (8 * j) (getD m j 0) 8 0 (s j) refl each ∙ div-one (getD m j 0))
 
 pub holds-bit : (l m : List ℕ) → Binary l → Holds l m → (p : ℕ) → p < 8 * bytes (length l) → bitAt m p ≡ getD l p 0
 unfolding bitAt

@@ -1,6 +1,5 @@
 -- The body of a codestream as it is written (document 01, "Truncation and the stream").
 --
---   cells l        == the coefficients of the plane l, row by row, 0 past its end
 --   Pass           == one bit plane of the coefficients of one class
 --   Order          == the passes of a body, first to last
 --   class mask c   == the coefficients, row by row, whose mask byte is c: 1 the marked, 0 the unmarked
@@ -17,13 +16,10 @@ use mathlib.Core.Bool.{Bool, false}
 use mathlib.Core.List.{List, [], _∷_, _++_}
 use Prim.Native.Nat.{ℕ, zero, suc, _-_, _/_, _^_, _<_, _≤_}
 use lib.Dec.{eqb, ltb}
-use lib.IntN.{ℤ, pos, natAbs}
+use lib.IntN.{ℤ, natAbs}
 use lib.ListN.{getD}
 use Rattle.line.specs.Cells.{choose}
 use Rattle.bitplane.specs.Bits.{bitOf, sign}
-
-abbrev pub cells : List ℤ → ℕ → ℤ
-cells l i = getD l i (pos 0)
 
 pub record Pass : Type 0 where
   pub on : ℕ → Bool

@@ -9,6 +9,7 @@ use lib.IntN.{ℤ}
 use lib.ListN.{length}
 use mir.Syntax.{w64}
 use mir.Val.{Fits}
+use Rattle.line.specs.Cells.{cell}
 use Rattle.line.specs.Formulas.{slopeA, between, smoothing}
 use Rattle.line.specs.Transform.{inside, predict, update}
 use Rattle.line.proofs.Border.{inside-in, inside-here}
@@ -16,7 +17,7 @@ use Rattle.steps.specs.Moved.{moved}
 use Rattle.runs.specs.declared.Step.{Step}
 use Rattle.runs.specs.declared.Step.the-variants.{SPlusP, TT, High, Low}
 use Rattle.runs.specs.declared.Taps.{Taps}
-use Rattle.runs.specs.Cells.{cell, Written}
+use Rattle.runs.specs.Cells.{Written}
 use Rattle.runs.specs.Steps.{amountAt, movedAt, Room, Stays}
 use Rattle.lifting.specs.Strip.{lane, Strips}
 use Rattle.lifting.specs.Steps.{amount, stepReach, movedRow, tapsOf, Straight, Fit, Lifted}

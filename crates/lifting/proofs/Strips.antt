@@ -8,9 +8,10 @@ use lib.Arith.{digits-lt}
 use lib.IntN.{ℤ}
 use lib.ListN.{length}
 use Rattle.whole.specs.Within.{Within}
+use Rattle.line.specs.Cells.{cell}
 use Rattle.line.proofs.Cells.{by-lt}
 use Rattle.line.specs.Bounds.{AllWithin}
-use Rattle.runs.specs.Cells.{cell, Written}
+use Rattle.runs.specs.Cells.{Written}
 use Rattle.lifting.specs.Strip.{lane, Small, Strips, Rows}
 
 -- ---- places: q + i rows on, and the same in one sum

@@ -12,7 +12,7 @@ use mir.Val.{SFits}
 use Rattle.whole.specs.Within.{Within}
 use Rattle.whole.proofs.Linear.{within-fits}
 use Rattle.kernel.specs.declared.Kernel.the-variants as kernel
-use Rattle.line.specs.Cells.{Line, Agree}
+use Rattle.line.specs.Cells.{Line, Agree, cell}
 use Rattle.line.specs.Formulas.{mean, difference, firstOf, secondOf}
 use Rattle.line.specs.Transform.{means, differences, low, high, first, second}
 use Rattle.line.proofs.Cells.{paired-even, paired-odd}
@@ -23,7 +23,7 @@ use Rattle.line.proofs.Bounds.{mean-within, difference-within, add-within, sub-
 use Rattle.steps.specs.Moved.{moved}
 use Rattle.runs.specs.declared.Step.{Step}
 use Rattle.runs.specs.declared.Step.the-variants.{SPlusP, TT, High, Low}
-use Rattle.runs.specs.Cells.{cell, Written}
+use Rattle.runs.specs.Cells.{Written}
 use Rattle.lifting.specs.Strip.{lane, Rows}
 use Rattle.lifting.specs.Steps.{amount, movedRow, Fit, Lifted}
 use Rattle.lifting.specs.Lines.{lineOf, Samples, Forward, Back, Predicted, Unpredicted}

@@ -12,8 +12,7 @@ use Prim.Native.Nat.{ℕ, _+_, _*_, _^_, _<_, _≤_}
 use lib.IntN.{ℤ}
 use lib.ListN.{length}
 use Rattle.whole.specs.Within.{Within}
-use Rattle.line.specs.Cells.{Line}
-use Rattle.runs.specs.Cells.{cell}
+use Rattle.line.specs.Cells.{Line, cell}
 
 abbrev pub lane : ℕ → List ℤ → ℕ → Line ℤ
 lane c l j n = cell l (n * c + j)

@@ -8,13 +8,17 @@
 --   behind m X      == the cells of X from m on
 --   evens X, odds X == X(2n) and X(2n+1), as lines
 --   paired E O      == the line with these evens and odds
+--   cell l          == the numbers of a buffer as a line, 0 past its end
 --   count n B       == how many of the first n cells B marks
 --
 -- Assumes nothing: these are definitions.
 use mathlib.Core.Path.{_≡_}
 use mathlib.Core.Bool.{Bool, true, false}
+use mathlib.Core.List.{List}
 use Prim.Native.Nat.{ℕ, zero, suc, _+_, _*_, _-_, _/_, _%_, _<_}
 use lib.Dec.{ltb, eqb}
+use lib.IntN.{ℤ, pos}
+use lib.ListN.{getD}
 
 abbrev pub Line : Type 0 → Type 0
 Line A = ℕ → A
@@ -47,3 +51,6 @@ paired E O x = choose (eqb (x % 2) 0) (E (x / 2)) (O (x / 2))
 unfoldable pub count : ℕ → Line Bool → ℕ
 count zero B = 0
 count (suc n) B = count n B + choose (B n) 1 0
+
+abbrev pub cell : List ℤ → Line ℤ
+cell l i = getD l i (pos 0)

@@ -15,8 +15,9 @@ use mir.Syntax.{w32, w64}
 use mir.Val.{SFits, toZ, ofZ, hbits}
 use mir.Facts.{toZ-ofZ}
 use borrow.Author.Needs.{sfits-of}
+use Rattle.line.specs.Cells.{cell}
 use Rattle.steps.specs.Moved.{moved}
-use Rattle.runs.specs.Cells.{cell, Written}
+use Rattle.runs.specs.Cells.{Written}
 use Rattle.runs.proofs.Writes.{written-none, written-more, written-all}
 
 pub record Moving (add : Bool) (amount : ℕ → ℤ) (s n : ℕ) (l l′ : List ℤ) (k : ℕ) : Type 0 where

@@ -14,7 +14,8 @@ use mir.Syntax.{w32}
 use mir.Val.{SFits, toZ, ofZ, hbits}
 use mir.Facts.{toZ-ofZ}
 use borrow.Author.Needs.{sfits-of}
-use Rattle.runs.specs.Cells.{cell, Written}
+use Rattle.line.specs.Cells.{cell}
+use Rattle.runs.specs.Cells.{Written}
 use Rattle.runs.proofs.Writes.{written-none, written-more, written-all}
 
 pub record Pairing (f g : ℤ → ℤ → ℤ) (n : ℕ) (a b a′ b′ : List ℤ) (k : ℕ) : Type 0 where

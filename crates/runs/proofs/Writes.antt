@@ -8,7 +8,8 @@ use borrow.Author.Count.{below-more}
 use lib.IntN.{ℤ, pos}
 use lib.ListN.{length, set, length-set}
 use lib.Seq.{getD-set-same, getD-set-other}
-use Rattle.runs.specs.Cells.{cell, Written}
+use Rattle.line.specs.Cells.{cell}
+use Rattle.runs.specs.Cells.{Written}
 
 pub written-none : {g : ℕ → ℤ} {s : ℕ} {l : List ℤ} → Written g s 0 l l
 written-none = record { size = refl; on = λ k h. absurd (omega arith); below = λ i h. refl; above = λ i h. refl }

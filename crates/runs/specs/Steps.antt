@@ -15,12 +15,12 @@ use lib.IntN.{ℤ}
 use lib.ListN.{length}
 use mir.Syntax.{w32}
 use mir.Val.{SFits}
+use Rattle.line.specs.Cells.{cell}
 use Rattle.line.specs.Formulas.{slopeA, slopeTT, between, smoothing}
 use Rattle.steps.specs.Moved.{moved}
 use Rattle.runs.specs.declared.Step.{Step}
 use Rattle.runs.specs.declared.Step.the-variants.{SPlusP, TT, High, Low}
 use Rattle.runs.specs.declared.Taps.{Taps}
-use Rattle.runs.specs.Cells.{cell}
 
 abbrev pub amountAt : Step → List ℤ → Taps → ℕ → ℤ
 amountAt SPlusP x p k = slopeA (cell x (p .before + k)) (cell x (p .after + k))

@@ -3,8 +3,9 @@ ghost use Prim.Native.Nat.{ℕ, _≤_, _<_};
 ghost use lib.ListN.{length};
 ghost use mir.Syntax.{w32};
 ghost use mir.Val.{SFits};
+ghost use Rattle.line.specs.Cells.{cell};
 ghost use Rattle.line.specs.Formulas.{mean, difference, firstOf, secondOf};
-ghost use Rattle.runs.specs.Cells.{cell, Written};
+ghost use Rattle.runs.specs.Cells.{Written};
 ghost use Rattle.runs.specs.Steps.{movedAt, Room, Stays};
 ghost use Rattle.runs.specs.declared.Step.the-variants as step;
 

@@ -3,8 +3,9 @@ ghost use mathlib.Core.Path.{_≡_};
 ghost use mathlib.Core.List.{_∷_, []};
 ghost use Prim.Native.Nat.{_/_, _<_, _≤_};
 ghost use lib.ListN.{length};
+ghost use Rattle.line.specs.Cells.{cell};
 ghost use Rattle.bitplane.specs.Bits.{sign};
-ghost use Rattle.bitplane.specs.Body.{class, onePlane, planes, code, passBits, body, cells};
+ghost use Rattle.bitplane.specs.Body.{class, onePlane, planes, code, passBits, body};
 ghost use Rattle.writer.specs.Written.{Appends, Room, Sends};
 
 // Writes bit b at place p. What was written before it stays, and the byte is filled with zeros.
@@ -49,8 +50,8 @@ fn put_code(out: &mut [u8], p: usize, z: i32, t: u64) -> usize
 // Writes plane t of the coefficients of class c, from place p on.
 fn write_pass(out: &mut [u8], plane: &[i32], mask: &[u8], c: u8, t: u64, p: usize) -> usize
     requires { ⌜ (t < 32) × (length (now mask) ≡ length (now plane)) ⌝ }
-    requires { ⌜ Room (passBits (onePlane (class (now mask) c) t) (cells (now plane)) (length (now plane))) p (now out) ⌝ }
-    ensures { λ r. ⌜ Sends (passBits (onePlane (class (now (mask .entry)) c) t) (cells (now (plane .entry))) (length (now (plane .entry)))) p (now (out .entry)) (now (out .exit)) r ⌝ }
+    requires { ⌜ Room (passBits (onePlane (class (now mask) c) t) (cell (now plane)) (length (now plane))) p (now out) ⌝ }
+    ensures { λ r. ⌜ Sends (passBits (onePlane (class (now (mask .entry)) c) t) (cell (now (plane .entry))) (length (now (plane .entry)))) p (now (out .entry)) (now (out .exit)) r ⌝ }
 {
     let mut q = p;
     for i in 0..plane.len() {
@@ -66,8 +67,8 @@ fn write_pass(out: &mut [u8], plane: &[i32], mask: &[u8], c: u8, t: u64, p: usiz
 // Writes planes top - 1 down to 0 of the coefficients of class c, from place p on.
 pub fn write_planes(out: &mut [u8], plane: &[i32], mask: &[u8], c: u8, top: u64, p: usize) -> usize
     requires { ⌜ (top ≤ 32) × (length (now mask) ≡ length (now plane)) ⌝ }
-    requires { ⌜ Room (body (planes (class (now mask) c) top) (cells (now plane)) (length (now plane))) p (now out) ⌝ }
-    ensures { λ r. ⌜ Sends (body (planes (class (now (mask .entry)) c) top) (cells (now (plane .entry))) (length (now (plane .entry)))) p (now (out .entry)) (now (out .exit)) r ⌝ }
+    requires { ⌜ Room (body (planes (class (now mask) c) top) (cell (now plane)) (length (now plane))) p (now out) ⌝ }
+    ensures { λ r. ⌜ Sends (body (planes (class (now (mask .entry)) c) top) (cell (now (plane .entry))) (length (now (plane .entry)))) p (now (out .entry)) (now (out .exit)) r ⌝ }
 {
     let mut q = p;
     let mut t = top;

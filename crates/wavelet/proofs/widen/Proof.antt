@@ -6,7 +6,8 @@ use lib.IntN.{pos}
 use lib.ListN.{length, getD}
 use mir.Syntax.{w32}
 use mir.Facts.{toZ-pos}
-use Rattle.runs.specs.Cells.{cell, Written}
+use Rattle.line.specs.Cells.{cell}
+use Rattle.runs.specs.Cells.{Written}
 use Rattle.runs.proofs.Writes.{written-none, written-more, written-all}
 use Rattle.wavelet.proofs.widen.Statement.{statement}
 use Rattle.wavelet.proofs.widen.Tie as tie

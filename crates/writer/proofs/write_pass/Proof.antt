@@ -7,7 +7,8 @@ use mir.Syntax.{w32}
 use mir.Facts.{toZ-ofZ}
 use lib.ListN.{length}
 use borrow.Author.Needs.{sfits-of}
-use Rattle.bitplane.specs.Body.{class, onePlane, passBits, cells}
+use Rattle.line.specs.Cells.{cell}
+use Rattle.bitplane.specs.Body.{class, onePlane, passBits}
 use Rattle.bitplane.proofs.Classes.{class-on, class-off}
 use Rattle.writer.specs.Written.{Sends}
 use Rattle.writer.proofs.Passes.{sends-start, room-on, sends-on, sends-off, sends-all}
@@ -15,7 +16,7 @@ use Rattle.writer.proofs.write_pass.Statement.{statement}
 use Rattle.writer.proofs.write_pass.Tie as tie
 
 abbrev Inv-loop : tie.InvT-loop
-Inv-loop out₀ plane mask c t p q₀ i₀ i-end out q i = (i ≤ length plane) × (length out ≡ length out₀) × Sends (passBits (onePlane (class mask c) t) (cells plane) i) p out₀ out q
+Inv-loop out₀ plane mask c t p q₀ i₀ i-end out q i = (i ≤ length plane) × (length out ≡ length out₀) × Sends (passBits (onePlane (class mask c) t) (cell plane) i) p out₀ out q
 
 abbrev μ-loop : tie.MeasureT-loop
 μ-loop out₀ plane mask c t p q₀ i₀ i-end out q i = length plane - i

@@ -2,13 +2,14 @@
 use Prim.Native.Nat.{_≤_}
 use native.Mathlib.Omega.{arith}
 use lib.ListN.{length}
-use Rattle.bitplane.specs.Body.{class, cells}
+use Rattle.line.specs.Cells.{cell}
+use Rattle.bitplane.specs.Body.{class}
 use Rattle.writer.proofs.Passes.{Rest, rest-start, rest-room, rest-more, rest-done}
 use Rattle.writer.proofs.write_planes.Statement.{statement}
 use Rattle.writer.proofs.write_planes.Tie as tie
 
 abbrev Inv-loop : tie.InvT-loop
-Inv-loop out₀ plane mask c top p q₀ t₀ out q t = (t ≤ top) × Rest (class mask c) (cells plane) (length plane) top p out₀ t q out
+Inv-loop out₀ plane mask c top p q₀ t₀ out q t = (t ≤ top) × Rest (class mask c) (cell plane) (length plane) top p out₀ t q out
 
 abbrev μ-loop : tie.MeasureT-loop
 μ-loop out₀ plane mask c top p q₀ t₀ out q t = t
