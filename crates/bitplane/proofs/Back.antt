@@ -10,11 +10,11 @@ use lib.IntN.{ℤ, pos, negsuc, natAbs}
 use lib.ListN.{length, length-append}
 use borrow.Author.Tests.{le-leb}
 use Rattle.line.specs.Cells.{choose}
-use Rattle.line.proofs.Cells.{by-lt}
+use Rattle.line.proofs.Cells.{by-lt, by-bool, never}
 use Rattle.bitplane.specs.Bits.{bytes, sign, signed, dropped}
 use Rattle.bitplane.specs.Body.{Order, planes, passBits, body}
 use Rattle.bitplane.specs.Reader.{Received, Reading, place, read, missing, start, Answer, answer}
-use Rattle.bitplane.proofs.Passes.{by-bool, Carries, carries-append, signed-zero, leftAfter, partly, reading-eq, Next, Upto, pass-back}
+use Rattle.bitplane.proofs.Passes.{Carries, carries-append, signed-zero, leftAfter, partly, reading-eq, Next, Upto, pass-back}
 
 -- each coefficient's planes come one after the other, from L i − 1 down
 unfoldable pub Ordered : ℕ → (ℕ → ℕ) → Order → Type 0
@@ -38,9 +38,6 @@ module _ (h : Received) (Z : ℕ → ℤ) (n : ℕ) where
       let e : p + length (passBits x Z n) + length (body xs Z n) ≡ p + length (passBits x Z n ++ body xs Z n) = omega arith in
       let w : leb (place h x (partly Z L p) n) (h .size) ≡ true = le-leb (place h x (partly Z L p) n) (h .size) (omega (arith, ap (λ (r : Reading). r .at) a)) in
       (rw (a, ← e) (b .0), rw (w, a, b .1))
-
-pub never : {b : Bool} → b ≡ true → b ≡ false → ⊥
-never p q = let z : _≡_ {A = ℕ} 0 1 = cc in omega arith
 
 -- ---- the planes of one class, T − 1 down to 0
 module _ (n : ℕ) (on : ℕ → Bool) (upto : (i : ℕ) → n ≤ i → on i ≡ false) where

@@ -16,11 +16,7 @@ use Rattle.bitplane.specs.Bits.{sign, signed, dropped}
 use Rattle.bitplane.specs.Body.{Pass, signAfter, code, passBits}
 use Rattle.bitplane.specs.Reader.{Received, Reading, used, grown, taken, place, pass}
 
--- ---- two cases of a test, and one place more
-pub by-bool : {C : Type 0} (c : Bool) → (c ≡ true → C) → (c ≡ false → C) → C
-by-bool true f g = f refl
-by-bool false f g = g refl
-
+-- ---- one place more
 below-suc : (P : ℕ → Type 0) (n : ℕ) → ((k : ℕ) → k < n → P k) → P n → (k : ℕ) → k < suc n → P k
 below-suc P n all here k h = by-lt k n (all k) (λ ge. let e : n ≡ k = omega arith in subst P e here)
 

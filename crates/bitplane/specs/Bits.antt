@@ -1,13 +1,13 @@
 -- Bits of numbers and of bytes (document 01, "Truncation and the stream").
 --
---   bitOf t m     == bit t of m
---   bitAt l p     == bit p of the bytes l, highest bit of a byte first; 0 past their end
+--   bitOf t m      == bit t of m
+--   bitAt l p      == bit p of the bytes l, highest bit of a byte first; 0 past their end
 --   gathered b p n == bits p to p + n − 1 of b as one number, the first its highest digit
---   byteAt l j    == byte j of the bits l, the last byte filled with zeros
---   bytes n       == how many bytes hold n bits, the last one filled
---   sign z        == the sign bit of z: 1 for negative
---   signed s m    == the number of magnitude m with the sign bit s
---   dropped q z   == z's sign times floor(|z| / 2^q) · 2^q
+--   byteAt l j     == byte j of the bits l, the last byte filled with zeros
+--   bytes n        == how many bytes hold n bits, the last one filled
+--   sign z         == the sign bit of z: 1 for negative
+--   signed s m     == the number of magnitude m with the sign bit s
+--   dropped q z    == z's sign times floor(|z| / 2^q) · 2^q
 --
 -- Assumes nothing: these are definitions.
 use mathlib.Core.List.{List}

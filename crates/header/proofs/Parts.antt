@@ -1,6 +1,6 @@
 -- The cases of refusal 12 and of the body's part. Assumes nothing.
 use mathlib.Core.Path.{_≡_, refl}
-use mathlib.Core.Bool.{Bool, true, false, not}
+use mathlib.Core.Bool.{true, false, not}
 use mathlib.Core.List.{List, []}
 use Prim.Native.Nat.{ℕ, _+_, _-_, _<_, _≤_}
 use native.Mathlib.Omega.{arith}
@@ -8,12 +8,9 @@ use lib.Dec.{eqb}
 use lib.ListN.{length, take, drop, length-drop}
 use lib.Seq.{take-all}
 use borrow.Author.Tests.{lt-ltb, le-ltb}
-use Rattle.line.proofs.Cells.{by-lt}
+use Rattle.line.proofs.Cells.{by-lt, never}
 use Rattle.refusal.specs.Numbers.{first}
 use Rattle.header.specs.Header.{number, frontLength, badHeader, badVersion, bodyOf}
-
-never : {b : Bool} → b ≡ true → b ≡ false → ⊥
-never p q = let z : _≡_ {A = ℕ} 0 1 = cc in omega arith
 
 module _ (l : List ℕ) where
   pub short-bad : length l < 14 → badHeader l ≡ true

@@ -1,5 +1,6 @@
 -- The laws of lines that are joined from lows and highs, or paired from evens and odds. Assumes nothing.
-use mathlib.Core.Path.{_≡_, ap}
+use mathlib.Core.Path.{_≡_, refl, ap}
+use mathlib.Core.Bool.{Bool, true, false}
 use Prim.Native.Nat.{ℕ, _+_, _*_, _-_, _/_, _%_, _<_, _≤_}
 use native.Mathlib.Decide.{decLt}
 use native.Mathlib.Omega.{arith}
@@ -13,6 +14,13 @@ by-lt {C} a b f g = go (decLt a b)
     go : Dec (a < b) → C
     go (yes p) = f p
     go (no n) = g (omega arith)
+
+pub by-bool : {C : Type 0} (c : Bool) → (c ≡ true → C) → (c ≡ false → C) → C
+by-bool true f g = f refl
+by-bool false f g = g refl
+
+pub never : {b : Bool} → b ≡ true → b ≡ false → ⊥
+never p q = let z : _≡_ {A = ℕ} 0 1 = cc in omega arith
 
 -- every place is even or odd
 pub by-parity : (P : ℕ → Type 0) → ((n : ℕ) → P (2 * n)) → ((n : ℕ) → P (2 * n + 1)) → (x : ℕ) → P x

@@ -2,7 +2,6 @@
 --
 --   maskBytes k       == the line mask of kernel k on bytes, 1 for marked and 0 for unmarked
 --   regionOf W l      == the region that a buffer of rows of W bytes holds
---   theKernel n       == the kernel of number n; of a number that is none, S
 --   maskByte          == the mask's byte at place i of rows of W
 --   maskTests         == the refusals of the call, in document 01's order: 1, 2, 4, 5, 9
 --

@@ -58,6 +58,7 @@ fn lines_back(
     transfer::numbers::put(b, buf, start + step, 2 * step, m, lanes);
 }
 
+// One or the other, chosen once for a strip.
 fn lines(
     kernel: Kernel,
     undo: bool,

@@ -14,7 +14,8 @@ use Rattle.line.specs.Cells.{choose}
 use Rattle.line.proofs.Cells.{by-lt}
 use Rattle.line.proofs.Marks.{or-left, or-right, or-cases, and-both, and-parts}
 use Rattle.refusal.proofs.Made.{Made}
-use Rattle.region.specs.Drawing.{within, inBox, Filled, Drawn}
+use Rattle.region.specs.Region.{inBox}
+use Rattle.region.specs.Drawing.{within, Filled, Drawn}
 
 -- ---- a run of bytes
 pub made-filled : {b at n : ℕ} {l l′ : List ℕ} → Made 0 (λ _. b) at (at + n) l l′ → Filled b at n l l′

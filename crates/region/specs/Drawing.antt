@@ -1,7 +1,6 @@
 -- Drawing rectangles in a region of rows of W bytes.
 --
 --   within at n i              == place i is one of n places from `at` on
---   inBox x y w h c r          == column c and row r are inside the rectangle x, y, width w, height h
 --   Filled b at n l l′         == l′ is l with the byte b in n places from `at` on
 --   Drawn x y w h W l l′       == l′ is l with the byte 1 inside the rectangle
 --   Inside l W n               == each rectangle of the numbers l is inside rows of W, and inside n places
@@ -14,12 +13,10 @@ use Prim.Native.Nat.{ℕ, _+_, _*_, _/_, _%_, _<_, _≤_}
 use lib.Dec.{leb, ltb}
 use lib.ListN.{length, getD}
 use Rattle.line.specs.Cells.{choose}
+use Rattle.region.specs.Region.{inBox}
 
 abbrev pub within : ℕ → ℕ → ℕ → Bool
 within at n i = leb at i && ltb i (at + n)
-
-abbrev pub inBox : ℕ → ℕ → ℕ → ℕ → ℕ → ℕ → Bool
-inBox x y w h c r = leb x c && ltb c (x + w) && leb y r && ltb r (y + h)
 
 pub record Filled (b at n : ℕ) (l l′ : List ℕ) : Type 0 where
   pub size : length l′ ≡ length l

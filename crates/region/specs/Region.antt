@@ -1,5 +1,6 @@
 -- The region that rectangles draw (document 01, "The mask": one byte a sample, 1 inside any rectangle, else 0).
 --
+--   inBox x y w h c r    == column c and row r are inside the rectangle x, y, width w, height h
 --   inRectangle l r x y  == column x and row y are inside rectangle r of the numbers l, four a rectangle: x, y, width, height
 --   inRegion l x y       == they are inside any rectangle
 --   regionByte l W i     == the region's byte at place i of rows of W
@@ -16,10 +17,11 @@ use Rattle.marking.specs.Marks.{byteOf}
 use Rattle.refusal.specs.Numbers.{Test, test}
 use Rattle.refusal.specs.Tests.{badSize, badLength, badNumbers, badRectangles}
 
+abbrev pub inBox : ℕ → ℕ → ℕ → ℕ → ℕ → ℕ → Bool
+inBox x y w h c r = leb x c && ltb c (x + w) && leb y r && ltb r (y + h)
+
 abbrev pub inRectangle : List ℕ → ℕ → ℕ → ℕ → Bool
-inRectangle l r x y =
-    leb (getD l (4 * r) 0) x && ltb x (getD l (4 * r) 0 + getD l (4 * r + 2) 0)
-    && leb (getD l (4 * r + 1) 0) y && ltb y (getD l (4 * r + 1) 0 + getD l (4 * r + 3) 0)
+inRectangle l r x y = inBox (getD l (4 * r) 0) (getD l (4 * r + 1) 0) (getD l (4 * r + 2) 0) (getD l (4 * r + 3) 0) x y
 
 unfoldable pub inRegion : List ℕ → ℕ → ℕ → Bool
 inRegion l x y = anyBelow (length l / 4) (λ r. inRectangle l r x y)
