@@ -1,4 +1,4 @@
--- What was written is read back: the passes of any order, then the two parts of a body. Assumes signed-zero.
+-- What was written is read back: the passes of any order, then the two parts of a body. Assumes nothing.
 use mathlib.Core.Path.{_≡_, refl, sym, ap, _∙_, subst}
 use mathlib.Core.Bool.{Bool, true, false, not}
 use mathlib.Core.List.{List, [], _∷_, _++_}

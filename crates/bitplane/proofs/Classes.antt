@@ -5,7 +5,7 @@ use mathlib.Core.List.{List, [], _∷_}
 use Prim.Native.Nat.{ℕ, zero, suc, _-_, _<_, _≤_}
 use native.Mathlib.Omega.{arith}
 use lib.ListN.{length, getD, List·getD-eq-default}
-use borrow.Author.Tests.{eq-eqb, ne-eqb}
+use borrow.Author.Tests.{eq-eqb, ne-eqb, eqb-true}
 use Rattle.line.proofs.Cells.{by-lt}
 use Rattle.bitplane.specs.Body.{class, onePlane, planes}
 
@@ -34,8 +34,17 @@ classes-apart mask i h = by-lt (getD mask i 2) 1
     (λ lt. eq-eqb (getD mask i 2) 0 (omega arith) ∙ sym (ap not (ne-eqb (getD mask i 2) 1 (λ e. omega arith))))
     (λ ge. ne-eqb (getD mask i 2) 0 (λ e. omega arith) ∙ sym (ap not (eq-eqb (getD mask i 2) 1 (omega arith))))
 
+pub one-class : (mask : List ℕ) (c d i : ℕ) → (c ≡ d → ⊥) → class mask c i ≡ true → class mask d i ≡ false
+unfolding class
+one-class mask c d i n o = let e = eqb-true (getD mask i 2) c o in ne-eqb (getD mask i 2) d (λ f. n (sym e ∙ f))
+
 -- the next plane of a class
 pub planes-step : (on : ℕ → Bool) (t : ℕ) → 0 < t → planes on t ≡ onePlane on (t - 1) ∷ planes on (t - 1)
 unfolding planes
 planes-step on zero h = absurd (omega arith)
 planes-step on (suc t) h = let e : suc t - 1 ≡ t = omega arith in rw e
+
+pub planes-many : (on : ℕ → Bool) (t : ℕ) → length (planes on t) ≡ t
+unfolding planes
+planes-many on zero = refl
+planes-many on (suc t) = ap suc (planes-many on t)

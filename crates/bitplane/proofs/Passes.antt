@@ -1,4 +1,4 @@
--- One pass is read back as it was written. Assumes signed-zero.
+-- One pass is read back as it was written. Assumes nothing.
 use mathlib.Core.Path.{_≡_, refl, sym, ap, _∙_, fun-ext, subst, ap₂}
 use mathlib.Core.Bool.{Bool, true, false}
 use mathlib.Core.List.{List, [], _∷_, _++_}

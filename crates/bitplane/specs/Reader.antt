@@ -9,16 +9,18 @@
 --   pass h n x r      == r after pass x over n coefficients
 --   read h n xs r     == r after the passes of an order
 --   missing h n xs r  == how many of these passes were not wholly received
---   Answer, answer    == what the reader returns of a body; `front` is the length before the body
+--   badFilling l p    == 16: after a complete body, a non-zero filling bit or a further byte; p is where the body ends
+--   Answer, answer    == what the reader finds in a body, and where the body ends; `front` is the length before the body
 --
 -- Assumes nothing: these are definitions.
-use mathlib.Core.Bool.{Bool}
+use mathlib.Core.Bool.{Bool, not, _&&_, _||_}
 use mathlib.Core.List.{List, [], _∷_}
-use Prim.Native.Nat.{ℕ, zero, suc, _+_, _*_, _^_}
-use lib.Dec.{ltb, leb}
+use Prim.Native.Nat.{ℕ, zero, suc, _+_, _-_, _*_, _^_}
+use lib.Dec.{ltb, leb, eqb}
 use lib.IntN.{ℤ, pos, negsuc}
 use lib.ListN.{length}
 use Rattle.line.specs.Cells.{choose}
+use Rattle.line.specs.Mask.{anyBelow}
 use Rattle.bitplane.specs.Bits.{bitAt, bytes, signed}
 use Rattle.bitplane.specs.Body.{Pass, Order}
 
@@ -68,15 +70,20 @@ missing h n (x ∷ xs) r = choose (leb (place h x r n) (h .size)) 0 1 + missing 
 abbrev pub start : Reading
 start = record { value = λ i. pos 0; at = 0 }
 
+unfoldable pub badFilling : List ℕ → ℕ → Bool
+badFilling l p = leb p (8 * length l) && (ltb (bytes p) (length l) || anyBelow (8 * length l - p) (λ k. not (eqb (bitAt l (p + k)) 0)))
+
 pub record Answer : Type 0 where
   pub value : ℕ → ℤ
   pub whole : Bool
   pub regionMark : ℕ
   pub q : ℕ
+  pub end : ℕ
 
 -- xs are the marked passes, ys the unmarked ones behind them
 abbrev pub answer : ℕ → Received → ℕ → Order → Order → Answer
 answer front h n xs ys =
     let r = read h n xs start in
+    let u = read h n ys r in
     let w = leb (r .at) (h .size) in
-    record { value = read h n ys r .value; whole = w; regionMark = choose w (front + bytes (r .at)) 0; q = missing h n ys r }
+    record { value = u .value; whole = w; regionMark = choose w (front + bytes (r .at)) 0; q = missing h n ys r; end = u .at }

@@ -43,16 +43,16 @@ number-at p n x rest h =
     rw (e, number-behind n p (bytesOf n x ++ rest) 0) (number-before n (bytesOf n x) rest 0 (omega (arith, bytes-length n x)) ∙ number-bytes n x h)
 
 -- ---- fields, one after the other
-laid-append : (fs gs : List Field) → laid (fs ++ gs) ≡ laid fs ++ laid gs
+pub laid-append : (fs gs : List Field) → laid (fs ++ gs) ≡ laid fs ++ laid gs
 unfolding laid
 laid-append [] gs = refl
 laid-append (f ∷ fs) gs = ap (λ (l : List ℕ). bytesOf (f .size) (f .value) ++ l) (laid-append fs gs) ∙ sym (append-assoc (bytesOf (f .size) (f .value)) (laid fs) (laid gs))
 
-unfoldable sizes : List Field → ℕ
+unfoldable pub sizes : List Field → ℕ
 sizes [] = 0
 sizes (f ∷ fs) = f .size + sizes fs
 
-laid-length : (fs : List Field) → length (laid fs) ≡ sizes fs
+pub laid-length : (fs : List Field) → length (laid fs) ≡ sizes fs
 unfolding laid sizes
 laid-length [] = refl
 laid-length (f ∷ fs) = length-append (bytesOf (f .size) (f .value)) (laid fs) ∙ ap₂ (λ (a b : ℕ). a + b) (bytes-length (f .size) (f .value)) (laid-length fs)
@@ -85,7 +85,7 @@ rectangles-back p (x ∷ rs) rest h =
     let e : length p + 2 ≡ length (p ++ b) = omega (arith, length-append p b, bytes-length 2 x) in
     rw (append-assoc b more rest, number-at p 2 x (more ++ rest) (h 0), e, ← append-assoc p b (more ++ rest), rectangles-back (p ++ b) rs rest (λ i. h (suc i)))
 
-rectangles-size : (rs : List ℕ) → sizes (rectangleFields rs) ≡ 2 * length rs
+pub rectangles-size : (rs : List ℕ) → sizes (rectangleFields rs) ≡ 2 * length rs
 unfolding sizes rectangleFields
 rectangles-size [] = refl
 rectangles-size (x ∷ rs) = omega (arith, rectangles-size rs)

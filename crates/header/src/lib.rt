@@ -1,8 +1,10 @@
 // The header of a codestream, and the part behind it that carries the body.
 ghost use mathlib.Core.Path.{_≡_};
-ghost use Prim.Native.Nat.{_+_, _<_, _≤_};
-ghost use lib.ListN.{length};
+ghost use Prim.Native.Nat.{ℕ, _+_, _*_, _<_, _≤_};
+ghost use lib.ListN.{length, getD};
 ghost use Rattle.header.specs.Header.{number, frontLength, badHeader, badVersion, bodyOf};
+ghost use Rattle.header.specs.Fields.{bytesOf, laid, rectangleFields};
+ghost use Rattle.header.specs.Writing.{Laid, Fit, Headed};
 
 // The numbers of one, two and four bytes at a place.
 pub fn one_byte(stream: &[u8], at: usize) -> usize
@@ -70,4 +72,67 @@ pub fn body(stream: &[u8]) -> &[u8]
     }
     let at = front_length(stream);
     &stream[at..]
+}
+
+// Write the numbers of one, two and four bytes at a place.
+fn put_byte(out: &mut [u8], at: usize, x: usize)
+    requires { ⌜ (at + 1 ≤ length (now out)) × (x < 256) ⌝ }
+    ensures { λ _. ⌜ Laid at (bytesOf 1 x) (now (out .entry)) (now (out .exit)) ⌝ }
+{
+    out[at] = x as u8;
+}
+
+fn put_two(out: &mut [u8], at: usize, x: usize)
+    requires { ⌜ (at + 2 ≤ length (now out)) × (x < 65536) ⌝ }
+    ensures { λ _. ⌜ Laid at (bytesOf 2 x) (now (out .entry)) (now (out .exit)) ⌝ }
+{
+    put_byte(out, at, x / 256);
+    put_byte(out, at + 1, x % 256);
+}
+
+fn put_four(out: &mut [u8], at: usize, x: usize)
+    requires { ⌜ (at + 4 ≤ length (now out)) × (x < 4294967296) ⌝ }
+    ensures { λ _. ⌜ Laid at (bytesOf 4 x) (now (out .entry)) (now (out .exit)) ⌝ }
+{
+    put_two(out, at, x / 65536);
+    put_two(out, at + 2, x % 65536);
+}
+
+// Writes the numbers of the rectangles behind the fixed fields.
+fn put_rectangles(out: &mut [u8], numbers: &[u32])
+    requires { ⌜ 14 + 2 * length (now numbers) ≤ length (now out) ⌝ }
+    requires { ⌜ ((i : ℕ) → i < length (now numbers) → getD (now numbers) i 0 < 65536) ⌝ }
+    ensures { λ _. ⌜ Laid 14 (laid (rectangleFields (now (numbers .entry)))) (now (out .entry)) (now (out .exit)) ⌝ }
+{
+    for i in 0..numbers.len() {
+        let x = numbers[i] as usize;
+        put_two(out, 14 + 2 * i, x);
+    }
+}
+
+// Writes the header of a stream of `total` bytes.
+pub fn write_header(
+    out: &mut [u8],
+    kernel: usize,
+    levels: usize,
+    depth: usize,
+    w: usize,
+    h: usize,
+    numbers: &[u32],
+    planes: usize,
+    total: usize,
+)
+    requires { ⌜ Fit (record { kernel = kernel; levels = levels; depth = depth; width = w; height = h; planes = planes; rectangles = now numbers }) total (now out) ⌝ }
+    ensures { λ _. ⌜ Headed (record { kernel = kernel; levels = levels; depth = depth; width = w; height = h; planes = planes; rectangles = now (numbers .entry) }) total (now (out .entry)) (now (out .exit)) ⌝ }
+{
+    put_four(out, 0, total - 4);
+    put_byte(out, 4, 1);
+    put_byte(out, 5, kernel);
+    put_byte(out, 6, levels);
+    put_byte(out, 7, depth);
+    put_two(out, 8, w);
+    put_two(out, 10, h);
+    put_byte(out, 12, numbers.len() / 4);
+    put_byte(out, 13, planes);
+    put_rectangles(out, numbers);
 }

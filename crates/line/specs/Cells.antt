@@ -10,11 +10,12 @@
 --   paired E O      == the line with these evens and odds
 --   cell l          == the numbers of a buffer as a line, 0 past its end
 --   count n B       == how many of the first n cells B marks
+--   listed n X      == the first n cells of X as a list
 --
 -- Assumes nothing: these are definitions.
 use mathlib.Core.Path.{_≡_}
 use mathlib.Core.Bool.{Bool, true, false}
-use mathlib.Core.List.{List}
+use mathlib.Core.List.{List, [], _∷_}
 use Prim.Native.Nat.{ℕ, zero, suc, _+_, _*_, _-_, _/_, _%_, _<_}
 use lib.Dec.{ltb, eqb}
 use lib.IntN.{ℤ, pos}
@@ -54,3 +55,7 @@ count (suc n) B = count n B + choose (B n) 1 0
 
 abbrev pub cell : List ℤ → Line ℤ
 cell l i = getD l i (pos 0)
+
+unfoldable pub listed : {A : Type 0} → ℕ → Line A → List A
+listed zero X = []
+listed (suc n) X = X 0 ∷ listed n (λ i. X (suc i))

@@ -2,7 +2,7 @@
 use mathlib.Core.Path.{_≡_, sym, ap, _∙_, fun-ext}
 use mathlib.Core.Bool.{true, false}
 use mathlib.Core.List.{List}
-use Prim.Native.Nat.{ℕ, _*_, _/_, _%_, _≤_}
+use Prim.Native.Nat.{ℕ, _/_, _%_, _≤_}
 use native.Mathlib.Nat.{mul-comm}
 use native.Mathlib.Omega.{arith}
 use lib.ListN.{length, getD, List·getD-eq-default}
@@ -16,11 +16,11 @@ use Rattle.grid.specs.Buffer.{picture}
 use Rattle.grid.proofs.Passes.{cell-of}
 use Rattle.grid.proofs.Levels.{halves-of}
 use Rattle.plane.specs.Plane.{maskOf}
-use Rattle.refusal.specs.Tests.{badSizeAt, badMark}
+use Rattle.refusal.specs.Tests.{badMark}
 use Rattle.refusal.specs.Results.{Result}
 use Rattle.refusal.proofs.Passed.{multiples, marks}
-use Rattle.masking.specs.Masks.{maskBytes, regionOf, maskByte}
-use Rattle.masking.specs.Areas.{Binary, Area}
+use Rattle.masking.specs.Masks.{maskBytes, regionOf, maskAt, maskByte}
+use Rattle.masking.specs.Areas.{Binary, Area, Region}
 use Rattle.masking.proofs.Running.{picture-most}
 use Rattle.masking.proofs.Walks.{bytes, byte-of, walk-bytes}
 
@@ -30,32 +30,37 @@ region-binary l e = record {
   each = λ i. by-lt i (length l) (marks l e i) (λ ge. let z : getD l i 0 ≡ 0 = List·getD-eq-default l 0 ge in omega arith);
 }
 
-pub region-area : (J W H : ℕ) (l a b : List ℕ) → badSizeAt J W H ≡ false → length l ≡ W * H → badMark l ≡ false → 32768 ≤ length a → 32768 ≤ length b
-    → Area W W H l a b × Halves J W H
-region-area J W H l a b size full mark p q =
-    let s = multiples J W H size in (
+pub region-area : (J W H : ℕ) (l a b : List ℕ) → Region J W H l → 32768 ≤ length a → 32768 ≤ length b → Area W W H l a b × Halves J W H
+region-area J W H l a b r p q =
+    let s = multiples J W H (r .size) in (
       record {
         some-w = s .0 .width .0;
         some-h = s .0 .height .0;
         w-most = s .0 .width .1;
         h-most = s .0 .height .1;
         wide = omega arith;
-        fits = omega (arith, mul-comm W H);
+        fits = omega (arith, r .full, mul-comm W H);
         a-room = p;
         b-room = q;
-        marks = region-binary l mark;
+        marks = r .marks;
       },
       halves-of J W H (s .1) (s .2),
     )
 
--- ---- the mask m′, in a buffer m
-pub mask-result : (n J W H : ℕ) (k : Kernel) (l m m′ : List ℕ) → Taken k ≡ kernelOf n → Binary l → length m ≡ W * H → length m′ ≡ length m
-    → picture 0 W m′ ≡ walk (maskBytes k) J W H (picture 0 W l) → Result 0 true (maskByte n J W H l) m m′
-mask-result n J W H k l m m′ chosen b full same e = record {
+-- ---- the mask l′, in the place of the region l
+pub mask-result : (J W H : ℕ) (k : Kernel) (l l′ : List ℕ) → Region J W H l → length l′ ≡ length l
+    → picture 0 W l′ ≡ walk (maskBytes k) J W H (picture 0 W l) → Result 0 true (maskAt k J W H l) l l′
+mask-result J W H k l l′ g same e = record {
   size = same;
   cell = λ i h.
-      let r : picture 0 W l ≡ bytes (regionOf W l) = fun-ext λ y. fun-ext λ x. sym (byte-of (picture 0 W l y x) (picture-most W l b y x)) in
-      cell-of 0 W m′ H i (omega (arith, mul-comm W H))
-      ∙ ap (λ (P : Picture ℕ). P (i / W) (i % W)) (e ∙ ap (walk (maskBytes k) J W H) r ∙ walk-bytes k J W H (regionOf W l))
-      ∙ ap (λ (q : Kernel). byteOf (maskOf q J W H (regionOf W l) (i / W) (i % W))) (ap taken chosen);
+      let r : picture 0 W l ≡ bytes (regionOf W l) = fun-ext λ y. fun-ext λ x. sym (byte-of (picture 0 W l y x) (picture-most W l (g .marks) y x)) in
+      cell-of 0 W l′ H i (omega (arith, g .full, mul-comm W H))
+      ∙ ap (λ (P : Picture ℕ). P (i / W) (i % W)) (e ∙ ap (walk (maskBytes k) J W H) r ∙ walk-bytes k J W H (regionOf W l));
+}
+
+-- a copy of the region in the mask's buffer m
+pub mask-of-copy : (n J W H : ℕ) (k : Kernel) (l m m′ c : List ℕ) → Taken k ≡ kernelOf n → c ≡ l → length m ≡ length l → Result 0 true (maskAt k J W H c) c m′ → Result 0 true (maskByte n J W H l) m m′
+mask-of-copy n J W H k l m m′ c chosen e same r = record {
+  size = r .size ∙ ap length e ∙ sym same;
+  cell = λ i h. r .cell i (rw e (omega arith)) ∙ ap (λ (q : Kernel). byteOf (maskOf q J W H (regionOf W c) (i / W) (i % W))) (ap taken chosen) ∙ ap (λ (x : List ℕ). maskByte n J W H x i) e;
 }

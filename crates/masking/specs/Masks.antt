@@ -2,7 +2,7 @@
 --
 --   maskBytes k       == the line mask of kernel k on bytes, 1 for marked and 0 for unmarked
 --   regionOf W l      == the region that a buffer of rows of W bytes holds
---   maskByte          == the mask's byte at place i of rows of W
+--   maskAt, maskByte  == the mask's byte at place i of rows of W, for a kernel and for a kernel's number
 --   maskTests         == the refusals of the call, in document 01's order: 1, 2, 4, 5, 9
 --
 -- Assumes nothing: these are definitions.
@@ -26,8 +26,11 @@ maskBytes k w X n = byteOf (maskLine k w (λ i. marked (X i)) n)
 abbrev pub regionOf : ℕ → List ℕ → Picture Bool
 regionOf W l y x = marked (picture 0 W l y x)
 
+abbrev pub maskAt : Kernel → ℕ → ℕ → ℕ → List ℕ → ℕ → ℕ
+maskAt k J W H region i = byteOf (maskOf k J W H (regionOf W region) (i / W) (i % W))
+
 abbrev pub maskByte : ℕ → ℕ → ℕ → ℕ → List ℕ → ℕ → ℕ
-maskByte k J W H region i = byteOf (maskOf (theKernel k) J W H (regionOf W region) (i / W) (i % W))
+maskByte n = maskAt (theKernel n)
 
 -- n is the length of the mask buffer
 abbrev pub maskTests : ℕ → ℕ → ℕ → ℕ → List ℕ → ℕ → List Test

@@ -1,13 +1,14 @@
 // The mask of a region: the line mask walked over rows and columns, level by level.
 ghost use mathlib.Core.Path.{_≡_};
+ghost use mathlib.Core.Bool.{true};
 ghost use Prim.Native.Nat.{_*_, _-_, _/_, _%_, _<_};
 ghost use lib.ListN.{length};
 ghost use Rattle.grid.specs.Picture.{rowPass, colPass, walk, Halves};
 ghost use Rattle.grid.specs.Buffer.{picture, InBuffer, Lines};
 ghost use Rattle.refusal.specs.Numbers.{answerNumber, first, accepted};
 ghost use Rattle.refusal.specs.Results.{Result};
-ghost use Rattle.masking.specs.Masks.{maskBytes, maskByte, maskTests};
-ghost use Rattle.masking.specs.Areas.{Binary, Strips, Area};
+ghost use Rattle.masking.specs.Masks.{maskBytes, maskAt, maskByte, maskTests};
+ghost use Rattle.masking.specs.Areas.{Binary, Strips, Area, Region};
 use kernel::Choice;
 use kernel::Kernel;
 use refusal::Answer;
@@ -118,6 +119,17 @@ fn cols(
     rows(kernel, buf, a, b, stride, w / 2, h / 2, levels - 1);
 }
 
+// Makes, in place, the mask of the region that a buffer holds.
+pub fn mask_levels(kernel: Kernel, levels: usize, w: usize, h: usize, marks: &mut [u8])
+    requires { ⌜ Region levels w h (now marks) ⌝ }
+    ensures { λ _. ⌜ Result 0 true (maskAt kernel levels w h (now (marks .entry))) (now (marks .entry)) (now (marks .exit)) ⌝ }
+{
+    // Each holds half of the largest strip: 2,048 rows of LANES bytes.
+    let mut a = [0u8; 32768];
+    let mut b = [0u8; 32768];
+    rows(kernel, marks, &mut a, &mut b, w, w, h, levels);
+}
+
 fn copy(src: &[u8], dst: &mut [u8])
     requires { ⌜ length (now dst) ≡ length (now src) ⌝ }
     ensures { λ _. ⌜ now (dst .exit) ≡ now (src .entry) ⌝ }
@@ -159,9 +171,6 @@ pub fn mask(
         return Answer::Refused(Refusal::Mark);
     }
     copy(region, mask);
-    // Each holds half of the largest strip: 2,048 rows of LANES bytes.
-    let mut a = [0u8; 32768];
-    let mut b = [0u8; 32768];
-    rows(chosen, mask, &mut a, &mut b, w, w, h, levels);
+    mask_levels(chosen, levels, w, h, mask);
     Answer::Done
 }

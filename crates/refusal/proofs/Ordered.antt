@@ -2,12 +2,13 @@
 -- returns the refusal of the first that holds. Assumes nothing.
 use mathlib.Core.Path.{_≡_, refl, sym, _∙_}
 use mathlib.Core.Bool.{Bool, true, false, not, false≢true}
-use mathlib.Core.List.{List, [], _∷_}
-use Prim.Native.Nat.{ℕ, suc, _<_}
+use mathlib.Core.List.{List, [], _∷_, _++_}
+use Prim.Native.Nat.{ℕ, zero, suc, _<_}
 use native.Mathlib.Omega.{arith}
 use borrow.Author.Needs.{needs}
 use borrow.Author.Tests.{lt-ltb, le-ltb, le-leb, lt-leb, eq-eqb, ne-eqb}
 use lib.Dec.{eqb, eqb·suc-zero}
+use Rattle.line.specs.Cells.{choose}
 use Rattle.refusal.specs.Numbers.{Test, test, first, accepted}
 use Rattle.refusal.specs.Results.{Result}
 
@@ -56,3 +57,31 @@ pub passes-test : (b : Bool) (n : ℕ) (ts : List Test) → accepted (test b (su
 unfolding first
 passes-test false n ts e = (refl, e)
 passes-test true n ts e = absurd (false≢true (sym (eqb·suc-zero n) ∙ e))
+
+-- ---- tests behind tests
+-- no test of a list refuses with number 0; of a list that is written out this computes
+unfoldable pub numbered : List Test → Bool
+numbered [] = true
+numbered (test b zero ∷ ts) = false
+numbered (test b (suc n) ∷ ts) = numbered ts
+
+module _ (us : List Test) where
+  pub first-append : (ts : List Test) → numbered ts ≡ true → first (ts ++ us) ≡ choose (accepted ts) (first us) (first ts)
+  unfolding first numbered
+  first-append [] p = refl
+  first-append (test b zero ∷ ts) p = absurd (false≢true p)
+  first-append (test true (suc n) ∷ ts) p = rw (eqb·suc-zero n)
+  first-append (test false (suc n) ∷ ts) p = first-append ts p
+
+  pub accepted-both : (ts : List Test) → numbered ts ≡ true → accepted (ts ++ us) ≡ true → (accepted ts ≡ true) × (accepted us ≡ true)
+  unfolding first numbered
+  accepted-both [] p e = (refl, e)
+  accepted-both (test b zero ∷ ts) p e = absurd (false≢true p)
+  accepted-both (test true (suc n) ∷ ts) p e = absurd (false≢true (sym (eqb·suc-zero n) ∙ e))
+  accepted-both (test false (suc n) ∷ ts) p e = accepted-both ts p e
+
+  pub accepted-join : (ts : List Test) → accepted ts ≡ true → accepted us ≡ true → accepted (ts ++ us) ≡ true
+  unfolding first
+  accepted-join [] e f = f
+  accepted-join (test true n ∷ ts) e f = e
+  accepted-join (test false n ∷ ts) e f = accepted-join ts e f

@@ -24,7 +24,7 @@ pub neither : (a b : Bool) → (a || b) ≡ false → (a ≡ false) × (b ≡ fa
 neither false b e = (refl, e)
 neither true b e = absurd (false≢true (sym e))
 
-not-any : (b : Bool) → (b ≡ true → ⊥) → b ≡ false
+pub not-any : (b : Bool) → (b ≡ true → ⊥) → b ≡ false
 not-any false h = refl
 not-any true h = absurd (h refl)
 

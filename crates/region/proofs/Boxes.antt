@@ -31,7 +31,7 @@ made-filled {b} {at} {n} m = record {
 within-intro : (at n i : ℕ) → at ≤ i → i < at + n → within at n i ≡ true
 within-intro at n i p q = and-both _ _ (le-leb at i p) (lt-ltb i (at + n) q)
 
-within-elim : (at n i : ℕ) → within at n i ≡ true → (at ≤ i) × (i < at + n)
+pub within-elim : (at n i : ℕ) → within at n i ≡ true → (at ≤ i) × (i < at + n)
 within-elim at n i e = let p = and-parts (leb at i) (ltb i (at + n)) e in (leb-true at i (p .0), ltb-true i (at + n) (p .1))
 
 -- ---- a rectangle
@@ -39,7 +39,7 @@ module _ (x y w h c r : ℕ) where
   box-intro : within x w c ≡ true → y ≤ r → r < y + h → inBox x y w h c r ≡ true
   box-intro p q s = and-both _ _ (and-both _ _ p (le-leb y r q)) (lt-ltb r (y + h) s)
 
-  box-elim : inBox x y w h c r ≡ true → (within x w c ≡ true) × (y ≤ r) × (r < y + h)
+  pub box-elim : inBox x y w h c r ≡ true → (within x w c ≡ true) × (y ≤ r) × (r < y + h)
   box-elim e =
       let p = and-parts _ (ltb r (y + h)) e in
       let q = and-parts (within x w c) (leb y r) (p .0) in

@@ -15,12 +15,14 @@ use lib.Dec.{eqb, ltb}
 use lib.ListN.{length, getD}
 use Rattle.line.specs.Cells.{choose}
 use Rattle.line.specs.Mask.{anyBelow}
+use Rattle.line.proofs.Marks.{any-elim}
 use Rattle.marking.specs.Marks.{byteOf}
 use Rattle.refusal.specs.Results.{Result}
 use Rattle.refusal.specs.Tests.{badRectangle, badRectangles}
-use Rattle.refusal.proofs.Passed.{neither, none-of}
+use Rattle.refusal.proofs.Passed.{neither, none-of, not-any}
 use Rattle.region.specs.Region.{inRectangle, inRegion, regionByte}
 use Rattle.region.specs.Drawing.{Filled, Drawn, Inside}
+use Rattle.region.proofs.Boxes.{within-elim, box-elim}
 
 pub record Painted (l : List ℕ) (W r n : ℕ) (m : List ℕ) : Type 0 where
   pub count : r ≤ length l / 4
@@ -63,9 +65,19 @@ in-picture W H x y w h e =
     let q = neither (eqb w 0 || eqb h 0) (ltb W (x + w)) (p .0) in
     (ltb-false W (x + w) (q .1), ltb-false H (y + h) (p .1))
 
-pub rectangles-inside : (W H : ℕ) (l : List ℕ) {n : ℕ} → badRectangles W H l ≡ false → n ≡ W * H → Inside l W n
-unfolding badRectangles
-rectangles-inside W H l {n} e size =
-    let passed : (r : ℕ) → r < length l / 4 → (getD l (4 * r) 0 + getD l (4 * r + 2) 0 ≤ W) × (getD l (4 * r + 1) 0 + getD l (4 * r + 3) 0 ≤ H)
-    = λ r h. in-picture W H _ _ _ _ (none-of (length l / 4) _ e r h) in
-    record { right = λ r h. passed r h .0; bottom = λ r h. omega (arith, mul-comm W H, mul-le-mul-right W (passed r h .1)) }
+module _ (W H : ℕ) (l : List ℕ) (e : badRectangles W H l ≡ false) where
+  pub each-inside : (r : ℕ) → r < length l / 4 → (getD l (4 * r) 0 + getD l (4 * r + 2) 0 ≤ W) × (getD l (4 * r + 1) 0 + getD l (4 * r + 3) 0 ≤ H)
+  unfolding badRectangles
+  each-inside r h = in-picture W H _ _ _ _ (none-of (length l / 4) _ e r h)
+
+  pub rectangles-inside : {n : ℕ} → n ≡ W * H → Inside l W n
+  rectangles-inside size = record { right = λ r h. each-inside r h .0; bottom = λ r h. omega (arith, mul-comm W H, mul-le-mul-right W (each-inside r h .1)) }
+
+  -- nothing is drawn outside the picture
+  pub outside-none : (x y : ℕ) → (x < W → y < H → ⊥) → inRegion l x y ≡ false
+  unfolding inRegion
+  outside-none x y out = not-any _ λ t. any-elim (length l / 4) (λ r. inRectangle l r x y) t λ r h i.
+      let p = each-inside r h in
+      let q = box-elim (getD l (4 * r) 0) (getD l (4 * r + 1) 0) (getD l (4 * r + 2) 0) (getD l (4 * r + 3) 0) x y i in
+      let a = within-elim (getD l (4 * r) 0) (getD l (4 * r + 2) 0) x (q .0) in
+      out (omega arith) (omega arith)

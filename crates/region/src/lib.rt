@@ -35,7 +35,7 @@ pub fn region(numbers: &[u32], w: usize, h: usize, region: &mut [u8]) -> Answer
 }
 
 // Not four a rectangle, or above 32 rectangles.
-fn bad_numbers(numbers: &[u32]) -> bool
+pub fn bad_numbers(numbers: &[u32]) -> bool
     ensures { λ r. ⌜ r ≡ tests.badNumbers (now (numbers .entry)) ⌝ }
 {
     let n = numbers.len();
@@ -52,7 +52,7 @@ fn bad_rectangle(w: usize, h: usize, x: u32, y: u32, across: u32, down: u32) -> 
 }
 
 // Any of the rectangles is bad.
-fn bad_rectangles(numbers: &[u32], w: usize, h: usize) -> bool
+pub fn bad_rectangles(numbers: &[u32], w: usize, h: usize) -> bool
     ensures { λ r. ⌜ r ≡ tests.badRectangles w h (now (numbers .entry)) ⌝ }
 {
     let mut bad = false;
@@ -72,11 +72,11 @@ fn bad_rectangles(numbers: &[u32], w: usize, h: usize) -> bool
 }
 
 // Clears the region, and draws each rectangle.
-fn draw(numbers: &[u32], w: usize, region: &mut [u8])
+pub fn draw(numbers: &[u32], w: usize, region: &mut [u8])
     requires { ⌜ Inside (now numbers) w (length (now region)) ⌝ }
     ensures { λ _. ⌜ Result 0 true (regionByte (now (numbers .entry)) w) (now (region .entry)) (now (region .exit)) ⌝ }
 {
-    fill(region, 0, region.len(), 0);
+    clear(region);
     for r in 0..numbers.len() / 4 {
         let k = 4 * r;
         rectangle(
@@ -88,6 +88,13 @@ fn draw(numbers: &[u32], w: usize, region: &mut [u8])
             numbers[k + 3],
         );
     }
+}
+
+// Sets every byte to 0.
+pub fn clear(region: &mut [u8])
+    ensures { λ _. ⌜ Filled 0 0 (length (now (region .entry))) (now (region .entry)) (now (region .exit)) ⌝ }
+{
+    fill(region, 0, region.len(), 0);
 }
 
 // Sets the samples of a rectangle, row by row.

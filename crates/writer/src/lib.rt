@@ -3,10 +3,10 @@ ghost use mathlib.Core.Path.{_≡_};
 ghost use mathlib.Core.List.{_∷_, []};
 ghost use Prim.Native.Nat.{_/_, _<_, _≤_};
 ghost use lib.ListN.{length};
-ghost use Rattle.line.specs.Cells.{cell};
+ghost use Rattle.line.specs.Cells.{cell, count};
 ghost use Rattle.bitplane.specs.Bits.{sign};
 ghost use Rattle.bitplane.specs.Body.{class, onePlane, planes, code, passBits, body};
-ghost use Rattle.writer.specs.Written.{Appends, Room, Sends};
+ghost use Rattle.writer.specs.Written.{Appends, Room, Sends, part, BodyReady, BodyWritten};
 
 // Writes bit b at place p. What was written before it stays, and the byte is filled with zeros.
 fn put(out: &mut [u8], p: usize, b: u8)
@@ -77,4 +77,36 @@ pub fn write_planes(out: &mut [u8], plane: &[i32], mask: &[u8], c: u8, top: u64,
         q = write_pass(out, plane, mask, c, t, q);
     }
     q
+}
+
+// Writes class c, which has so many members, from place p on: no pass over the plane where it has none.
+fn write_class(
+    out: &mut [u8],
+    plane: &[i32],
+    mask: &[u8],
+    c: u8,
+    members: usize,
+    top: u64,
+    p: usize,
+) -> usize
+    requires { ⌜ (top ≤ 32) × (length (now mask) ≡ length (now plane)) ⌝ }
+    requires { ⌜ members ≡ count (length (now mask)) (class (now mask) c) ⌝ }
+    requires { ⌜ Room (part (now mask) top (now plane) c) p (now out) ⌝ }
+    ensures { λ r. ⌜ Sends (part (now (mask .entry)) top (now (plane .entry)) c) p (now (out .entry)) (now (out .exit)) r ⌝ }
+{
+    if members == 0 {
+        return p;
+    }
+    write_planes(out, plane, mask, c, top, p)
+}
+
+// Writes a body, the marked part first. The result is the place behind that part.
+pub fn write_body(out: &mut [u8], plane: &[i32], mask: &[u8], marks: usize, top: u64) -> usize
+    requires { ⌜ BodyReady (now mask) top (now plane) marks (now out) ⌝ }
+    ensures { λ r. ⌜ BodyWritten (part (now (mask .entry)) top (now (plane .entry)) 1) (part (now (mask .entry)) top (now (plane .entry)) 0) (now (out .entry)) (now (out .exit)) r ⌝ }
+{
+    let others = plane.len() - marks;
+    let p = write_class(out, plane, mask, 1, marks, top, 0);
+    write_class(out, plane, mask, 0, others, top, p);
+    p
 }

@@ -1,18 +1,12 @@
 -- `masking::mask` fills a mask from its region, or refuses. Assumes nothing.
-use mathlib.Core.Path.{_≡_, sym, ap, _∙_}
+use mathlib.Core.Path.{_≡_, sym, _∙_}
 use mathlib.Core.Bool.{false}
-use Prim.Native.Nat.{ℕ}
-use native.Mathlib.Omega.{arith}
 use borrow.Author.Needs.{needs}
 use lib.Dec.{leb}
-use lib.ListN.{length-replicate}
 use Rattle.kernel.proofs.Numbers.{known, unknown}
-use Rattle.grid.specs.Picture.{walk}
-use Rattle.grid.specs.Buffer.{picture}
 use Rattle.refusal.proofs.Ordered.{ordered, refused, done}
 use Rattle.refusal.proofs.Passed.{inside, multiples, area}
-use Rattle.masking.specs.Masks.{maskBytes}
-use Rattle.masking.proofs.Entry.{region-area, region-binary, mask-result}
+use Rattle.masking.proofs.Entry.{region-binary, mask-of-copy}
 use Rattle.masking.proofs.mask.Statement.{statement}
 use Rattle.masking.proofs.mask.Tie as tie
 
@@ -38,15 +32,14 @@ mask-spec =
     (λ c κs. search needs)
     (λ c. let h = few (c .before .before .before .before .before .before .before .before .before) in refused _ (search ordered depth 20 fits 3000))
     (λ c κs. search needs)
+    (λ c κs. let bound = c .before .before .before .before .before .before .before .before .before in let size = c .before .before .before .before .before .before .before .before .before .before in let told = c .before .before .before .before .before .before in
+    rw (c .before .before .before .copy .ensures)
+    (record {
+      size = sym (size .bad-size-at .ensures) ∙ bound .if2 .left;
+      full = c .before .before .before .before .before .before .before .before .if3 .left;
+      marks = region-binary _ (sym (told .bad-mark .ensures) ∙ c .before .before .before .before .before .if5 .left);
+    }))
     (λ c. search needs)
-    (λ c. search needs)
-    (λ c κs. let a = c .before .before .before .before .before .before .before .before .before .before .before .before .before .before .before .before .before .before .before .before .before .args in let n = length-replicate {A = ℕ} 32768 0 in
-    rw (c .before .before .before .before .before .copy .ensures)
-    (region-area (a .levels) (a .w) (a .h) (a .region .now) _ _
-    (sym (c .before .before .before .before .before .before .before .before .before .before .before .before .bad-size-at .ensures) ∙ c .before .before .before .before .before .before .before .before .before .before .before .if2 .left) (c .before .before .before .before .before .before .before .before .before .before .if3 .left) (sym (c .before .before .before .before .before .before .before .before .bad-mark .ensures) ∙ c .before .before .before .before .before .before .before .if5 .left) (omega arith) (omega arith)))
-    (λ c. search needs)
-    (λ c. let a = c .before .before .before .before .before .before .before .before .before .before .before .before .before .before .before .before .before .before .before .before .before .before .before .before .before .before .args in let k = c .before .before .before .before .before .before .before .before .before .before .before .before .before .before .before .before .before .before .before .before .before .chosen in let K = k .given .0 .0 in let h = few (c .before .before .before .before .before .before .before .before .before .before .before .before .before .before .before .before .before .before .before .before .before) in
+    (λ c. let k = c .before .before .before .before .before .before .before .before .before .before .before .before .before .before .before .before .before .chosen in let h = few (c .before .before .before .before .before .before .before .before .before .before .before .before .before .before .before .before .before) in
     done _ (search ordered depth 20 fits 3000)
-    (mask-result (a .kernel) (a .levels) (a .w) (a .h) K (a .region .now) (a .mask .now) _ (sym (k .given .1) ∙ c .before .before .before .before .before .before .before .before .before .before .before .before .before .before .before .before .before .before .before .before .before .before .before .new .ensures)
-    (region-binary (a .region .now) (sym (c .before .before .before .before .before .before .before .before .before .before .before .before .before .bad-mark .ensures) ∙ c .before .before .before .before .before .before .before .before .before .before .before .before .if5 .left)) (c .before .before .before .before .before .before .before .before .before .before .before .before .before .before .if4 .left) (c .before .before .before .before .rows .kept .1 .0 ∙ c .before .before .before .before .before .before .before .before .before .before .copy .kept .1 .0)
-    (c .before .before .before .before .rows .ensures ∙ ap (λ l. walk (maskBytes K) (a .levels) (a .w) (a .h) (picture 0 (a .w) l)) (c .before .before .before .before .before .before .before .before .before .before .copy .ensures)))))
+    (mask-of-copy (c .before .before .before .before .before .before .before .before .before .before .before .before .before .before .before .before .before .before .before .before .before .before .args .kernel) _ _ _ (k .given .0 .0) _ _ _ _ (sym (k .given .1) ∙ c .before .before .before .before .before .before .before .before .before .before .before .before .before .before .before .before .before .before .before .new .ensures) (c .before .before .before .before .before .before .copy .ensures) (c .before .before .before .before .before .before .before .before .before .before .if4 .left ∙ sym (c .before .before .before .before .before .before .before .before .before .before .before .if3 .left)) (c .before .before .mask-levels .ensures))))

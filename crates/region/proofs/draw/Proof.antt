@@ -19,7 +19,7 @@ draw-spec =
     Inv-loop
     μ-loop
     (λ c κs. omega arith)
-    (λ c. let f = c .before .before .fill .ensures in painted-none (sym (f .size)) (rw (← f .size) at f))
+    (λ c. let f = c .before .before .clear .ensures in painted-none (sym (f .size)) (rw (← f .size) at f))
     (λ c. omega arith)
     (λ c. omega arith)
     (λ c. omega arith)
@@ -34,9 +34,9 @@ draw-spec =
     (λ c. omega arith)
     (λ c κs.
     let s = c .before .before .before .before .before .before .before .before .before .before .before .before .before in let l = c .before .before .before .before .before .before .loop in
-    (s .pre .right (l .r) (omega arith), omega (arith, s .pre .bottom (l .r) (omega arith), l .inv .size, c .before .before .before .before .before .before .before .before .before .fill .ensures .size)))
+    (s .pre .right (l .r) (omega arith), omega (arith, s .pre .bottom (l .r) (omega arith), l .inv .size, c .before .before .before .before .before .before .before .before .before .clear .ensures .size)))
     (λ c. omega arith)
     (λ c. omega arith)
     (λ c. painted-more (c .before .before .before .before .before .before .before .before .before .loop .inv) (omega arith) (c .before .before .rectangle .ensures))
-    (λ c. c .before .loop .inv .size ∙ c .before .before .before .before .fill .ensures .size)
-    (λ c. painted-all (c .before .loop .inv) (omega arith) (sym (c .before .before .before .before .fill .ensures .size))))
+    (λ c. c .before .loop .inv .size ∙ c .before .before .before .before .clear .ensures .size)
+    (λ c. painted-all (c .before .loop .inv) (omega arith) (sym (c .before .before .before .before .clear .ensures .size))))

@@ -1,0 +1,2 @@
+-- What the contracts of the reader of codestreams cite.
+pub mod Answers

@@ -1,0 +1,3 @@
+-- The laws that the proofs of the writer cite.
+pub mod Outcomes
+pub mod Streams

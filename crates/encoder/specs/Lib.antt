@@ -1,0 +1,2 @@
+-- What the contracts of the writer of codestreams cite.
+pub mod Answers

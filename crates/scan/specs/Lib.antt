@@ -1,0 +1,2 @@
+-- What the contracts on scans cite.
+pub mod Scan

@@ -1,0 +1,3 @@
+-- The laws that the proofs on shots cite.
+pub mod Settings
+pub mod Masks

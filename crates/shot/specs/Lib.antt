@@ -1,0 +1,2 @@
+-- What the contracts on shots cite.
+pub mod Shots
