@@ -7,6 +7,7 @@ use native.Mathlib.Omega.{arith}
 use lib.ListN.{length}
 use borrow.Author.Needs.{needs}
 use Rattle.refusal.specs.declared.Refusal.the-variants.{Header, Version}
+use Rattle.refusal.proofs.Ordered.{told}
 use Rattle.header.specs.Header.{badHeader, badVersion}
 use Rattle.header.proofs.Parts.{good-long}
 use Rattle.shot.specs.Shots.{settingNumber}
@@ -26,13 +27,13 @@ abbrev M : tie.Start → ℕ
 M s = length (s .args .mask .now)
 
 good : (c : tie.Else1) → badHeader (L (c .before .before .before .before)) ≡ false
-good c = cc
+good c = search told
 
 long : (c : tie.Else1) → 14 ≤ length (L (c .before .before .before .before))
 long c = good-long (L (c .before .before .before .before)) (good c)
 
 version : (c : tie.Else2) → badVersion (L (c .before .before .before .before .before .before)) ≡ false
-version c = cc
+version c = search told
 
 -- the setting that was tested is that of the header
 setting : (c : tie.After-take-setting) → settingNumber (c .take-setting .result) ≡ settingFirst (L (c .before .before .before .before .before .before .before .before .before .before .before .before))
