@@ -9,3 +9,4 @@ pub mod Lengths
 pub mod Bytes
 pub mod Filling
 pub mod Round
+pub mod Cut

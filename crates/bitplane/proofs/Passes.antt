@@ -17,7 +17,7 @@ use Rattle.bitplane.specs.Body.{Pass, signAfter, code, passBits}
 use Rattle.bitplane.specs.Reader.{Received, Reading, used, grown, taken, place, pass}
 
 -- ---- one place more
-below-suc : (P : ℕ → Type 0) (n : ℕ) → ((k : ℕ) → k < n → P k) → P n → (k : ℕ) → k < suc n → P k
+pub below-suc : (P : ℕ → Type 0) (n : ℕ) → ((k : ℕ) → k < n → P k) → P n → (k : ℕ) → k < suc n → P k
 below-suc P n all here k h = by-lt k n (all k) (λ ge. let e : n ≡ k = omega arith in subst P e here)
 
 -- ---- b carries the bits l from place p on

@@ -7,3 +7,4 @@ pub mod Bodies
 pub mod RoundTrip
 pub mod Buffer
 pub mod Planes
+pub mod Cuts

@@ -26,15 +26,15 @@ use Rattle.codestream.proofs.Parts.{Parts, stream-parts}
 use Rattle.codestream.proofs.Bodies.{bodyAnswer, filled, body-whole, body-ends, body-plane}
 
 -- ---- the reader's definitions over what it found: the shot s, the body's bytes b, which begin at `front` and end at bit e
-abbrev lastTests : Shot → List ℕ → ℕ → ℕ → ℕ → List Test
+abbrev pub lastTests : Shot → List ℕ → ℕ → ℕ → ℕ → List Test
 lastTests s b e n m =
     test (badPlanes (s .planes)) 14 ∷ test (badLength (s .width) (s .height) n) 5 ∷ test (badLength (s .width) (s .height) m) 5 ∷ test (badFilling b e) 16 ∷ []
 
-abbrev testsBehind : Shot → List ℕ → ℕ → ℕ → ℕ → List Test
+abbrev pub testsBehind : Shot → List ℕ → ℕ → ℕ → ℕ → List Test
 testsBehind s b e n m =
     settingTests (s .kernel) (s .levels) (s .depth) (s .width) (s .height) ++ (rectangleTests (s .width) (s .height) (s .rectangles) ++ lastTests s b e n m)
 
-abbrev answerFrom : ℕ → List ℕ → Shot → Answer
+abbrev pub answerFrom : ℕ → List ℕ → Shot → Answer
 answerFrom f b s = answer f (received b) (area s) (markedPasses s) (unmarkedPasses s)
 
 -- ---- an accepted call returns what it found
@@ -58,18 +58,18 @@ module _ {s : Shot} {l : List ℤ} (w : Writable s l) where
       accepted-join (drawing ++ lastTests s b e n m) (settingTests (s .kernel) (s .levels) (s .depth) (s .width) (s .height)) (w .setting) (accepted-join (lastTests s b e n m) drawing (w .drawing) last)
 
   module _ {x : List ℕ} (p : Parts x s l) where
-    answer-read : answerOf x ≡ bodyAnswer s (packed (bodyBits s l))
+    pub answer-read : answerOf x ≡ bodyAnswer s (packed (bodyBits s l))
     answer-read = ap (λ (f : ℕ). answerFrom f (bodyOf x) (shotOf x)) (p .front) ∙ ap (λ (b : List ℕ). answerFrom (front s) b (shotOf x)) (p .body) ∙ ap (answerFrom (front s) (packed (bodyBits s l))) (p .shot)
 
     filling-read : badFilling (bodyOf x) (answerOf x .end) ≡ false
     filling-read = ap₂ badFilling (p .body) (ap (λ (a : Answer). a .end) answer-read ∙ body-ends w) ∙ filled s l
 
-    tests-read : (n m : ℕ) → n ≡ area s → m ≡ area s → accepted (readTests x n m) ≡ true
+    pub tests-read : (n m : ℕ) → n ≡ area s → m ≡ area s → accepted (readTests x n m) ≡ true
     tests-read n m e f =
         accepted-join (testsBehind (shotOf x) (bodyOf x) (answerOf x .end) n m) (bodyTests x) (p .tests)
         (subst (λ (t : Shot). accepted (testsBehind t (bodyOf x) (answerOf x .end) n m) ≡ true) (sym (p .shot)) (tests-behind (bodyOf x) (answerOf x .end) n m e f filling-read))
 
-    plane-read : planeOf x ≡ l
+    pub plane-read : planeOf x ≡ l
     plane-read = ap (λ (t : Shot). listed (area t) (answerOf x .value)) (p .shot) ∙ ap (λ (a : Answer). listed (area s) (a .value)) answer-read ∙ body-plane w
 
     numbers-read : (n m : ℕ) → n ≡ area s → m ≡ area s → readNumbers x n m ≡ record { refusal = 0; marks = marks s; whole = true; regionMark = regionMark s l; q = 0 }

@@ -2,3 +2,4 @@
 pub mod Stream
 pub mod Writing
 pub mod Reading
+pub mod Cutting

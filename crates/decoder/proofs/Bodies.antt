@@ -7,7 +7,7 @@ use native.Mathlib.Omega.{arith}
 use lib.IntN.{ℤ, pos}
 use lib.ListN.{length, getD, take, drop, replicate, length-take, length-drop, length-replicate, getD-replicate, List·getD-eq-default}
 use lib.Seq.{ext-getD}
-use borrow.Author.Tests.{ltb-false, eqb-true, not-false, le-leb, lt-leb, lt-ltb, le-ltb}
+use borrow.Author.Tests.{ltb-false, le-leb, lt-leb, lt-ltb, le-ltb}
 use Rattle.line.specs.Cells.{cell, count}
 use Rattle.line.proofs.Cells.{by-lt}
 use Rattle.line.proofs.Lists.{is-listed}
@@ -20,9 +20,9 @@ use Rattle.refusal.specs.Numbers.{first}
 use Rattle.refusal.specs.declared.Refusal.the-variants.{Filling}
 use Rattle.refusal.proofs.Ordered.{none, here, next}
 use Rattle.scan.specs.Scan.{markCount}
-use Rattle.header.specs.Header.{number, frontLength, badHeader, bodyOf}
+use Rattle.header.specs.Header.{frontLength, badHeader, bodyOf}
 use Rattle.header.specs.Fields.{shotOf}
-use Rattle.header.proofs.Parts.{good-long, good-front, else-length}
+use Rattle.header.proofs.Parts.{good-small}
 use Rattle.region.specs.Drawing.{Filled}
 use Rattle.shot.specs.Shots.{marks}
 use Rattle.shot.proofs.Masks.{mask-length, mask-binary}
@@ -31,17 +31,9 @@ use Rattle.codestream.specs.Reading.{answerOf, planeOf}
 use Rattle.decoder.specs.Answers.{Masked, Found, fillingTest}
 use Rattle.decoder.specs.declared.Outcome.the-variants.{Done, Refused}
 
--- ---- the length field bounds the body
-module _ (l : List ℕ) (bytes : (i : ℕ) → getD l i 0 < 256) (g : badHeader l ≡ false) where
-  four-small : number 4 l 0 < 4294967296
-  unfolding number
-  four-small = omega (arith, bytes 0, bytes 1, bytes 2, bytes 3)
-
-  long-is : number 4 l 0 + 4 ≡ length l
-  long-is = eqb-true (number 4 l 0 + 4) (length l) (not-false _ (sym (else-length l (good-long l g) (good-front l g)) ∙ g))
-
-  pub body-small : (m : ℕ) → 8 * length (take (length l - m) (drop m l)) < 2 ^ 62
-  body-small m = simp (length-take, length-drop) (omega (arith, four-small, long-is))
+-- the length field bounds the body
+pub body-small : (l : List ℕ) → ((i : ℕ) → getD l i 0 < 256) → badHeader l ≡ false → (m : ℕ) → 8 * length (take (length l - m) (drop m l)) < 2 ^ 62
+body-small l bytes g m = simp (length-take, length-drop) (omega (arith, good-small l bytes g))
 
 -- where the marked part of a body ends
 abbrev markedEnd : List ℕ → ℕ

@@ -37,7 +37,7 @@ number-bytes (suc n) x h =
     rw (number-before n l (x % 256 ∷ []) 0 (omega arith), number-bytes n (x / 256) s, e, getD-append-add l (x % 256 ∷ []) 0 0) (omega arith)
 
 -- a number behind the bytes p, whatever follows
-number-at : (p : List ℕ) (n x : ℕ) (rest : List ℕ) → x < 256 ^ n → number n (p ++ (bytesOf n x ++ rest)) (length p) ≡ x
+pub number-at : (p : List ℕ) (n x : ℕ) (rest : List ℕ) → x < 256 ^ n → number n (p ++ (bytesOf n x ++ rest)) (length p) ≡ x
 number-at p n x rest h =
     let e : length p ≡ length p + 0 = omega arith in
     rw (e, number-behind n p (bytesOf n x ++ rest) 0) (number-before n (bytesOf n x) rest 0 (omega (arith, bytes-length n x)) ∙ number-bytes n x h)

@@ -1,13 +1,13 @@
 -- The cases of refusal 12 and of the body's part. Assumes nothing.
-use mathlib.Core.Path.{_≡_, refl}
+use mathlib.Core.Path.{_≡_, refl, sym, _∙_}
 use mathlib.Core.Bool.{true, false, not}
 use mathlib.Core.List.{List, []}
 use Prim.Native.Nat.{ℕ, _+_, _-_, _<_, _≤_}
 use native.Mathlib.Omega.{arith}
 use lib.Dec.{eqb}
-use lib.ListN.{length, take, drop, length-drop}
+use lib.ListN.{length, getD, take, drop, length-drop}
 use lib.Seq.{take-all}
-use borrow.Author.Tests.{lt-ltb, le-ltb}
+use borrow.Author.Tests.{lt-ltb, le-ltb, eqb-true, not-false}
 use Rattle.line.proofs.Cells.{by-lt, never}
 use Rattle.refusal.specs.Numbers.{first}
 use Rattle.header.specs.Header.{number, frontLength, badHeader, badVersion, bodyOf}
@@ -27,6 +27,14 @@ module _ (l : List ℕ) where
 
   pub good-front : badHeader l ≡ false → frontLength l ≤ length l
   good-front g = by-lt (length l) (frontLength l) (λ lt. absurd (never (cut-bad (good-long g) lt) g)) (λ ge. ge)
+
+  pub good-total : badHeader l ≡ false → number 4 l 0 + 4 ≡ length l
+  good-total g = eqb-true (number 4 l 0 + 4) (length l) (not-false _ (sym (else-length (good-long g) (good-front g)) ∙ g))
+
+  -- the length field has four bytes
+  pub good-small : ((i : ℕ) → getD l i 0 < 256) → badHeader l ≡ false → length l < 4294967300
+  unfolding number
+  good-small bytes g = omega (arith, good-total g, bytes 0, bytes 1, bytes 2, bytes 3)
 
   pub none-by-header : badHeader l ≡ true → [] ≡ bodyOf l
   unfolding first

@@ -90,7 +90,7 @@ fn put_two(out: &mut [u8], at: usize, x: usize)
     put_byte(out, at + 1, x % 256);
 }
 
-fn put_four(out: &mut [u8], at: usize, x: usize)
+pub fn put_four(out: &mut [u8], at: usize, x: usize)
     requires { ⌜ (at + 4 ≤ length (now out)) × (x < 4294967296) ⌝ }
     ensures { λ _. ⌜ Laid at (bytesOf 4 x) (now (out .entry)) (now (out .exit)) ⌝ }
 {

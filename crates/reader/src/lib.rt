@@ -13,12 +13,17 @@ ghost use Rattle.reader.specs.Reads.{Ready, Spare, reading, PassRead, Pl
 fn bit(body: &[u8], p: usize) -> usize
     ensures { λ r. ⌜ r ≡ bitAt (now (body .entry)) p ⌝ }
 {
-    let k = p / 8;
-    if k < body.len() {
-        let x = body[k] as usize;
-        return (x >> (7 - p % 8)) % 2;
-    }
-    0
+    let c = cursor::new(body, p);
+    cursor::bit(c)
+}
+
+// The bit behind place p, and 0 past the end.
+fn bit_behind(body: &[u8], p: usize) -> usize
+    requires { ⌜ p + 1 < 2 ^ 64 ⌝ }
+    ensures { λ r. ⌜ r ≡ bitAt (now (body .entry)) (p + 1) ⌝ }
+{
+    let c = cursor::new(body, p);
+    cursor::bit(cursor::next(c))
 }
 
 // What a bit of plane t counts.
@@ -55,7 +60,7 @@ fn grow(body: &[u8], p: usize, b: usize, v: i32, t: u64, step: i32) -> i32
         if k >= body.len() {
             return 0;
         }
-        if bit(body, p + 1) == 0 {
+        if bit_behind(body, p) == 0 {
             return step;
         }
         return 0 - step;

@@ -1,6 +1,8 @@
 // Runs the entries on the worked examples of document 01 that are not proved as theorems, and prints what they give.
+use encoder::Outcome;
 use libc::STDOUT_FILENO;
 use refusal::Answer;
+use refusal::Refusal;
 
 fn text(bytes: &[u8]) {
     io::write_all(STDOUT_FILENO, bytes);
@@ -114,6 +116,124 @@ fn mask(kernel: usize) {
     four_bytes(&mask);
 }
 
+// Two hexadecimal digits.
+fn hex(x: u8) {
+    io::print_hex(STDOUT_FILENO, byte(x), 2);
+}
+
+fn one_hex(x: u8) {
+    text(b" ");
+    hex(x);
+}
+
+fn two_hex(high: u8, low: u8) {
+    text(b" ");
+    hex(high);
+    hex(low);
+}
+
+// The length field, version, kernel, J, D, W, H, the number of rectangles, and T.
+fn header_fields(stream: &[u8; 40]) {
+    two_hex(stream[0], stream[1]);
+    hex(stream[2]);
+    hex(stream[3]);
+    one_hex(stream[4]);
+    one_hex(stream[5]);
+    one_hex(stream[6]);
+    one_hex(stream[7]);
+    two_hex(stream[8], stream[9]);
+    two_hex(stream[10], stream[11]);
+    one_hex(stream[12]);
+    one_hex(stream[13]);
+}
+
+// The numbers of one rectangle, and a body of two bytes.
+fn later_fields(stream: &[u8; 40]) {
+    two_hex(stream[14], stream[15]);
+    two_hex(stream[16], stream[17]);
+    two_hex(stream[18], stream[19]);
+    two_hex(stream[20], stream[21]);
+    two_hex(stream[22], stream[23]);
+    text(b"\n");
+}
+
+// How many bytes from `from` on hold 0xEE.
+fn untouched(stream: &[u8], from: usize) -> usize {
+    let mut n: usize = 0;
+    for i in from..stream.len() {
+        if stream[i] == 0xEE {
+            n += 1;
+        }
+    }
+    n
+}
+
+// Prints what the writer answers, and gives the total length, 0 where nothing was written.
+fn written(outcome: Outcome) -> usize {
+    match outcome {
+        Outcome::Written(lengths) => {
+            text(b" answer 0, total length");
+            number(lengths.total as u64);
+            text(b", region mark");
+            number(lengths.region_mark as u64);
+            text(b", marks");
+            number(lengths.marks as u64);
+            text(b"\n");
+            lengths.total
+        }
+        Outcome::TooShort(needed) => {
+            text(b" answer");
+            number(refusal::refusal_number(Refusal::Room));
+            text(b", needed length");
+            number(needed as u64);
+            text(b"\n");
+            0
+        }
+        Outcome::Refused(refusal) => {
+            answer(Answer::Refused(refusal));
+            0
+        }
+    }
+}
+
+fn print_untouched(stream: &[u8], from: usize) {
+    text(b"bytes from");
+    number(from as u64);
+    text(b" on that hold what they held:");
+    number(untouched(stream, from) as u64);
+    text(b"\n");
+}
+
+// Writes the picture 10 7 / 4 4 by kernel 0, with the rectangle 0 0 1 1, and gives the total length.
+fn write_picture(stream: &mut [u8]) -> usize {
+    let samples = [10u16, 7, 4, 4];
+    let numbers = [0u32, 0, 1, 1];
+    let mut plane = [0i32; 4];
+    let mut mask = [0u8; 4];
+    text(b"10 7 / 4 4, kernel 0, transformed:");
+    answer(wavelet::transform(0, 1, 8, 2, 2, &samples, &mut plane));
+    text(b"rectangle 0 0 1 1, written into");
+    number(stream.len() as u64);
+    text(b" bytes:");
+    written(encoder::write(&plane, &numbers, 0, 1, 8, 2, 2, &mut mask, stream))
+}
+
+// The buffer is longer than the stream.
+fn long_stream() {
+    let mut stream = [0xEEu8; 40];
+    let total = write_picture(&mut stream);
+    header_fields(&stream);
+    later_fields(&stream);
+    print_untouched(&stream, total);
+}
+
+// The buffer is one byte too short.
+fn short_stream() {
+    let mut stream = [0xEEu8; 23];
+    let total = write_picture(&mut stream);
+    print_untouched(&stream, total);
+}
+
 fn main() {
     drop();
     sizes();
@@ -123,4 +243,6 @@ fn main() {
     picture(3);
     mask(0);
     mask(3);
+    long_stream();
+    short_stream();
 }

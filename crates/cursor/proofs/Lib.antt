@@ -1,0 +1,3 @@
+-- The laws of the cursor.
+pub mod Places
+pub mod Calls

@@ -1,0 +1,36 @@
+-- A buffer whose first bytes were changed: what they are now, and behind them what it held. Assumes nothing.
+use mathlib.Core.Path.{_≡_, sym, ap, _∙_}
+use mathlib.Core.List.{List, _++_, append-assoc}
+use Prim.Native.Nat.{ℕ, _+_, _-_, _<_, _≤_}
+use native.Mathlib.Omega.{arith}
+use lib.ListN.{length, getD, take, drop, length-append, length-drop, List·getD-append}
+use lib.Seq.{ext-getD, length-take-le, getD-take, getD-drop, getD-append-add, drop-append-le}
+use Rattle.line.proofs.Cells.{by-lt}
+use Rattle.refusal.proofs.Made.{Made}
+use Rattle.header.specs.Fields.{bytesOf}
+use Rattle.header.specs.Writing.{Laid}
+use Rattle.header.proofs.Fields.{bytes-length}
+use Rattle.codestream.specs.Cutting.{cutTo}
+
+module _ (p l : List ℕ) {m : List ℕ} (n : ℕ) (size : length p ≡ n) (room : n ≤ length l) (len : length m ≡ length l) where
+  -- the bytes p in front of what l held
+  pub in-front : ((i : ℕ) → i < n → getD m i 0 ≡ getD p i 0) → ((i : ℕ) → n ≤ i → getD m i 0 ≡ getD l i 0) → m ≡ p ++ drop n l
+  in-front f g = ext-getD 0 m (p ++ drop n l) (len ∙ omega (arith, length-append p (drop n l), length-drop n l))
+      (λ i h. by-lt i n
+      (λ lt. f i lt ∙ sym (List·getD-append p (drop n l) 0 i (omega arith)))
+      (λ ge. let j = i - n in let d : length p + j ≡ i = omega arith in let e : n + j ≡ i = omega arith in
+      g i ge ∙ ap (λ (k : ℕ). getD l k 0) (sym e) ∙ sym (getD-drop n l j 0) ∙ sym (getD-append-add p (drop n l) j 0) ∙ ap (λ (k : ℕ). getD (p ++ drop n l) k 0) d))
+
+-- a loop that copied the first n bytes of s
+pub copied : (s l : List ℕ) {m : List ℕ} (n : ℕ) → n ≤ length s → n ≤ length l → Made 0 (λ k. getD s k 0) 0 n l m → m ≡ take n s ++ drop n l
+copied s l n h room made =
+    in-front (take n s) l n (length-take-le n s h) room (made .size) (λ i b. made .on i b (omega arith) ∙ sym (getD-take n s i 0 b)) (made .above)
+
+-- a stream that was copied up to c, and its length field set
+pub cut-laid : (l out : List ℕ) {a b : List ℕ} (c : ℕ) → 4 ≤ c → c ≤ length l → c ≤ length out → a ≡ take c l ++ drop c out → Laid 0 (bytesOf 4 (c - 4)) a b → b ≡ cutTo l c ++ drop c out
+cut-laid l out {a} c long inside room e f =
+    let n : length (bytesOf 4 (c - 4)) ≡ 4 = bytes-length 4 (c - 4) in
+    let s : length (take c l) ≡ c = length-take-le c l inside in
+    let t : 4 ≤ length a = rw e (omega (arith, length-append (take c l) (drop c out))) in
+    in-front (bytesOf 4 (c - 4)) a 4 n t (f .len) (λ i h. let z : 0 + i ≡ i = omega arith in rw z at (f .inside i (omega arith))) (λ i h. f .behind i (omega arith))
+    ∙ rw (e, drop-append-le 4 (take c l) (drop c out) (omega arith), append-assoc (bytesOf 4 (c - 4)) (drop 4 (take c l)) (drop c out))

@@ -1,0 +1,2 @@
+-- What the contracts of the cutter cite.
+pub mod Answers

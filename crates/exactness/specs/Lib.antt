@@ -1,0 +1,2 @@
+-- What the theorems on cut streams speak of.
+pub mod Shown

@@ -1,0 +1,1 @@
+// Demand 3 in one piece, as definitions and theorems; no code.

@@ -1,0 +1,105 @@
+/* The outside 5/3: OpenJPEG's reversible transform of T.800, run on one picture.
+
+   Standard input: width, height and levels, then width x height samples, row by row.
+   Standard output: width x height coefficients, row by row.
+   Every number is a signed 32-bit integer in the machine's own byte order. There is no level shift.
+
+   `opj_dwt_encode` is a function of OpenJPEG's archive that its public header leaves out. The records
+   below restate what it is given, as version 2.5.0 lays it out (Debian 12, package libopenjp2-7-dev).
+   Build: cc -O2 outside_53.c -l:libopenjp2.a -lm -lpthread -o outside_53 */
+#include <stdint.h>
+#include <stdio.h>
+#include <stdlib.h>
+#include <string.h>
+
+struct subband {
+    int32_t x0, y0, x1, y1;
+    uint32_t number;
+    void *precincts;
+    uint32_t precincts_size;
+    int32_t bit_planes;
+    float step_size;
+};
+
+struct resolution {
+    int32_t x0, y0, x1, y1;
+    uint32_t precincts_wide, precincts_high, subband_count;
+    struct subband subbands[3];
+    uint32_t window[4];
+};
+
+struct component {
+    int32_t x0, y0, x1, y1;
+    uint32_t number, resolution_count, resolutions_to_decode;
+    struct resolution *resolutions;
+    uint32_t resolutions_size;
+    int32_t *data;
+    int owns_data;
+    size_t data_size_needed, data_size;
+    int32_t *window_data;
+    uint32_t window[4];
+    size_t sample_count;
+};
+
+/* The only part of the coder that the transform reads is its thread pool, the ninth pointer. */
+struct coder {
+    void *before[8];
+    void *thread_pool;
+    void *after[503];
+};
+
+int opj_dwt_encode(struct coder *coder, struct component *component);
+void *opj_thread_pool_create(int threads);
+
+static void fail(const char *message) {
+    fprintf(stderr, "outside_53: %s\n", message);
+    exit(1);
+}
+
+static void *zeros(size_t count, size_t size) {
+    void *memory = calloc(count, size);
+    if (!memory) fail("out of memory");
+    return memory;
+}
+
+/* The resolutions, the smallest first; each has half the width and height of the next. */
+static struct resolution *make_resolutions(int32_t width, int32_t height, int32_t levels) {
+    struct resolution *resolutions = zeros((size_t)levels + 1, sizeof *resolutions);
+    for (int32_t i = levels; i >= 0; i--) {
+        resolutions[i].x1 = width;
+        resolutions[i].y1 = height;
+        width = (width + 1) / 2;
+        height = (height + 1) / 2;
+    }
+    return resolutions;
+}
+
+int main(void) {
+    int32_t head[3];
+    if (fread(head, 4, 3, stdin) != 3) fail("the input has no width, height and levels");
+    int32_t width = head[0], height = head[1], levels = head[2];
+    if (width < 1 || height < 1 || width > 4096 || height > 4096) fail("width and height are 1 to 4096");
+    if (levels < 1 || levels > 5) fail("levels are 1 to 5");
+
+    /* The transform asks for data at a multiple of 64 bytes. */
+    size_t count = (size_t)width * height;
+    int32_t *data = aligned_alloc(64, (count * 4 + 63) / 64 * 64);
+    if (!data) fail("out of memory");
+    if (fread(data, 4, count, stdin) != count) fail("the input has too few samples");
+
+    struct component component;
+    memset(&component, 0, sizeof component);
+    component.x1 = width;
+    component.y1 = height;
+    component.resolution_count = component.resolutions_to_decode = (uint32_t)levels + 1;
+    component.resolutions = make_resolutions(width, height, levels);
+    component.data = data;
+    component.sample_count = count;
+
+    struct coder *coder = zeros(1, sizeof *coder);
+    coder->thread_pool = opj_thread_pool_create(0);
+    if (!coder->thread_pool) fail("OpenJPEG made no thread pool");
+    if (!opj_dwt_encode(coder, &component)) fail("OpenJPEG did not transform the picture");
+    if (fwrite(data, 4, count, stdout) != count || fflush(stdout)) fail("the output could not be written");
+    return 0;
+}
