@@ -3,14 +3,17 @@
    Standard input: width, height and levels, then width x height samples, row by row.
    Standard output: width x height coefficients, row by row.
    Every number is a signed 32-bit integer in the machine's own byte order. There is no level shift.
+   With an argument, a number of rounds, the transform and its undoing are also timed, and the best times, in
+   milliseconds, go to standard error.
 
-   `opj_dwt_encode` is a function of OpenJPEG's archive that its public header leaves out. The records
-   below restate what it is given, as version 2.5.0 lays it out (Debian 12, package libopenjp2-7-dev).
+   `opj_dwt_encode` and `opj_dwt_decode` are functions of OpenJPEG's archive that its public header leaves out. The
+   records below restate what they are given, as version 2.5.0 lays it out (Debian 12, package libopenjp2-7-dev).
    Build: cc -O2 outside_53.c -l:libopenjp2.a -lm -lpthread -o outside_53 */
 #include <stdint.h>
 #include <stdio.h>
 #include <stdlib.h>
 #include <string.h>
+#include <time.h>
 
 struct subband {
     int32_t x0, y0, x1, y1;
@@ -41,14 +44,19 @@ struct component {
     size_t sample_count;
 };
 
-/* The only part of the coder that the transform reads is its thread pool, the ninth pointer. */
+/* Of the coder the transform reads its thread pool, the ninth pointer; the way back also reads whether the whole
+   tile is decoded. */
 struct coder {
     void *before[8];
     void *thread_pool;
-    void *after[503];
+    void *between[2];
+    int32_t whole_tile;
+    int32_t padding;
+    void *after[500];
 };
 
 int opj_dwt_encode(struct coder *coder, struct component *component);
+int opj_dwt_decode(struct coder *coder, struct component *component, uint32_t resolutions);
 void *opj_thread_pool_create(int threads);
 
 static void fail(const char *message) {
@@ -74,17 +82,46 @@ static struct resolution *make_resolutions(int32_t width, int32_t height, int32_
     return resolutions;
 }
 
-int main(void) {
+/* The transform asks for data at a multiple of 64 bytes. */
+static int32_t *numbers(size_t count) {
+    int32_t *memory = aligned_alloc(64, (count * 4 + 63) / 64 * 64);
+    if (!memory) fail("out of memory");
+    return memory;
+}
+
+static double milliseconds(void) {
+    struct timespec time;
+    clock_gettime(CLOCK_MONOTONIC, &time);
+    return time.tv_sec * 1e3 + time.tv_nsec * 1e-6;
+}
+
+static void transform(struct coder *coder, struct component *component) {
+    if (!opj_dwt_encode(coder, component)) fail("OpenJPEG did not transform the picture");
+}
+
+/* The best of some rounds there and back. */
+static void time_rounds(struct coder *coder, struct component *component, long rounds) {
+    double forward = 1e30, backward = 1e30;
+    for (long i = 0; i < rounds; i++) {
+        double begun = milliseconds();
+        transform(coder, component);
+        double turned = milliseconds();
+        if (!opj_dwt_decode(coder, component, component->resolution_count)) fail("OpenJPEG did not undo the transform");
+        double ended = milliseconds();
+        if (turned - begun < forward) forward = turned - begun;
+        if (ended - turned < backward) backward = ended - turned;
+    }
+    fprintf(stderr, "%.6f %.6f\n", forward, backward);
+}
+
+int main(int argc, char **argv) {
     int32_t head[3];
     if (fread(head, 4, 3, stdin) != 3) fail("the input has no width, height and levels");
     int32_t width = head[0], height = head[1], levels = head[2];
     if (width < 1 || height < 1 || width > 4096 || height > 4096) fail("width and height are 1 to 4096");
     if (levels < 1 || levels > 5) fail("levels are 1 to 5");
-
-    /* The transform asks for data at a multiple of 64 bytes. */
     size_t count = (size_t)width * height;
-    int32_t *data = aligned_alloc(64, (count * 4 + 63) / 64 * 64);
-    if (!data) fail("out of memory");
+    int32_t *data = numbers(count);
     if (fread(data, 4, count, stdin) != count) fail("the input has too few samples");
 
     struct component component;
@@ -98,8 +135,10 @@ int main(void) {
 
     struct coder *coder = zeros(1, sizeof *coder);
     coder->thread_pool = opj_thread_pool_create(0);
+    coder->whole_tile = 1;
     if (!coder->thread_pool) fail("OpenJPEG made no thread pool");
-    if (!opj_dwt_encode(coder, &component)) fail("OpenJPEG did not transform the picture");
+    if (argc > 1) time_rounds(coder, &component, atol(argv[1]));
+    transform(coder, &component);
     if (fwrite(data, 4, count, stdout) != count || fflush(stdout)) fail("the output could not be written");
     return 0;
 }

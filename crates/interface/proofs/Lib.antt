@@ -1,0 +1,3 @@
+-- The laws that the proofs of the C interface cite.
+pub mod Giving
+pub mod Values

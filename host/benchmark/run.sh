@@ -1,0 +1,72 @@
+#!/bin/sh
+# Builds the static library and the benchmark for release, runs it and writes
+# docs/BENCHMARKS.md. If INTERFACE_LIBRARY names a library, that one is taken.
+set -eu
+
+root=$(cd "$(dirname "$0")/../.." && pwd)
+cd "$root"
+
+[ -n "${INTERFACE_LIBRARY:-}" ] || rt staticlib interface
+
+CARGO_TARGET_DIR=$root/target/host cargo build --release --offline --quiet -j 2 --manifest-path host/Cargo.toml -p benchmark
+
+# OpenJPEG's 5/3 is called inside the archive, since the shared library hides
+# it; outside_53.c knows the records of version 2.5.0 alone.
+unset OUTSIDE_53
+archive=$(cc -print-file-name=libopenjp2.a)
+version=$(dpkg-query -W -f '${Version}' libopenjp2-7-dev 2>/dev/null || echo none)
+case $version in
+2.5.0*)
+    cc -O2 -o target/host/release/outside_53_program tools/outside_53/outside_53.c "$archive" -lm -lpthread
+    OUTSIDE_53=$root/target/host/release/outside_53_program
+    export OUTSIDE_53
+    ;;
+esac
+
+# The first value of a field of /proc/cpuinfo or /proc/meminfo.
+field() {
+    sed -n "s/^$1[[:space:]]*: *//p" "$2" | head -n 1
+}
+
+# Sizes of the first processor's caches.
+caches() {
+    for cache in /sys/devices/system/cpu/cpu0/cache/index*; do
+        [ -r "$cache/size" ] || continue
+        printf ' L%s %s %s,' "$(cat "$cache/level")" "$(cat "$cache/type")" "$(cat "$cache/size")"
+    done | sed 's/,$//'
+}
+
+machine() {
+    echo "- Processor: $(field 'model name' /proc/cpuinfo), $(grep -c '^processor' /proc/cpuinfo) in view of the system; one is used"
+    echo "- Caches of one:$(caches)"
+    echo "- Memory: $(field MemTotal /proc/meminfo)"
+    echo "- System: $(uname -s -r -m)"
+    echo "- Reference and benchmark: $(rustc --version), release build"
+    if [ -n "${OUTSIDE_53:-}" ]; then
+        echo "- OpenJPEG: libopenjp2-7-dev $version, one thread"
+    else
+        echo "- OpenJPEG: libopenjp2-7-dev 2.5.0 is not installed"
+    fi
+}
+
+mkdir -p docs
+out=docs/BENCHMARKS.md
+tables=$(target/host/release/benchmark)
+{
+    echo "# Benchmarks"
+    echo
+    echo "Written by host/benchmark/run.sh; not a test. Times are milliseconds, the best of several rounds of one run. Square pictures of depth 8. Every answer timed was the same as the reference's, and kernel 3's the same as OpenJPEG's where that was timed."
+    echo
+    echo "- library: the static library of the C interface, with every test that it makes of its arguments."
+    echo "- reference: host/reference, plain Rust written for clearness, built for release."
+    echo "- OpenJPEG: its 5/3 on the same picture with rows and columns exchanged, in place on 32-bit numbers, without any test."
+    echo "- copy: the floor. The same buffers copied once: transform, each sample into its coefficient's cell; undo, plane into undone; write and read, plane, mask and stream."
+    echo "- write and read: kernel 2, five levels, the plane of the same picture; the writer derives the mask, and so does the reader."
+    echo
+    echo "## Machine"
+    echo
+    machine
+    echo
+    echo "$tables"
+} >"$out"
+echo "wrote $out"

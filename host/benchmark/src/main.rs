@@ -1,0 +1,386 @@
+//! Times the static library beside the reference, OpenJPEG's 5/3 and a plain
+//! copy of the same buffers, and prints tables in Markdown. Every answer timed
+//! is compared with the reference's.
+
+mod outside;
+mod timing;
+
+use timing::best;
+
+const SIDES: [usize; 3] = [512, 2048, 4096];
+const DEPTH: usize = 8;
+const KERNELS: [&str; 4] = ["0, S", "1, S+P", "2, TT", "3, 5/3"];
+
+/// The best time of OpenJPEG.
+#[derive(Clone, Copy)]
+enum Outside {
+    /// It has no such kernel.
+    None,
+    NotInstalled,
+    Time(f64),
+}
+
+/// One line of a table: the best times in milliseconds.
+struct Row {
+    name: String,
+    side: usize,
+    copy: f64,
+    library: f64,
+    reference: f64,
+    outside: Outside,
+}
+
+fn row(name: String, side: usize, times: [f64; 3], outside: Outside) -> Row {
+    let [copy, library, reference] = times;
+    Row {
+        name,
+        side,
+        copy,
+        library,
+        reference,
+        outside,
+    }
+}
+
+/// A slope with edges and some noise, as a panel has.
+fn picture(side: usize) -> Vec<u16> {
+    let mut noise: u64 = 1;
+    let mut samples = Vec::with_capacity(side * side);
+    for y in 0..side {
+        for x in 0..side {
+            noise ^= noise << 13;
+            noise ^= noise >> 7;
+            noise ^= noise << 17;
+            let slope = (3 * x + 5 * y) / 64 % 160;
+            let lamp = if (x / 96 + y / 64) % 5 == 0 { 80 } else { 0 };
+            samples.push((slope + lamp + noise as usize % 8) as u16);
+        }
+    }
+    samples
+}
+
+fn accepted(number: u64) {
+    assert_eq!(number, 0, "the arguments are accepted");
+}
+
+/// OpenJPEG's times for kernel 3; its coefficients must be the library's.
+fn outside_times(kernel: usize, side: usize, levels: usize, samples: &[u16]) -> [Outside; 2] {
+    if kernel != 3 {
+        return [Outside::None; 2];
+    }
+    let Some(outside) = outside::run(samples, side, levels) else {
+        return [Outside::NotInstalled; 2];
+    };
+    let mut plane = vec![0; side * side];
+    accepted(bindings::transform(
+        kernel, levels, DEPTH, side, side, samples, &mut plane,
+    ));
+    assert!(
+        plane == outside.plane,
+        "transform: library and OpenJPEG differ"
+    );
+    [
+        Outside::Time(outside.transform),
+        Outside::Time(outside.undo),
+    ]
+}
+
+fn transform_times(
+    kernel: usize,
+    side: usize,
+    levels: usize,
+    samples: &[u16],
+) -> ([f64; 3], Vec<i32>) {
+    let [mut copied, mut plane, mut expected] = [0, 0, 0].map(|c| vec![c; side * side]);
+    let times = best([
+        &mut || {
+            for (c, &s) in copied.iter_mut().zip(samples) {
+                *c = i32::from(s);
+            }
+            std::hint::black_box(&mut copied);
+        },
+        &mut || {
+            accepted(bindings::transform(
+                kernel, levels, DEPTH, side, side, samples, &mut plane,
+            ));
+        },
+        &mut || {
+            accepted(reference::transform(
+                kernel,
+                levels,
+                DEPTH,
+                side,
+                side,
+                samples,
+                &mut expected,
+            ));
+        },
+    ]);
+    assert!(plane == expected, "transform: library and reference differ");
+    (times, plane)
+}
+
+fn undo_times(kernel: usize, side: usize, levels: usize, plane: &[i32]) -> [f64; 3] {
+    let [mut copied, mut undone, mut expected] = [0, 0, 0].map(|n| vec![n; side * side]);
+    let times = best([
+        &mut || {
+            copied.copy_from_slice(plane);
+            std::hint::black_box(&mut copied);
+        },
+        &mut || {
+            accepted(bindings::undo(
+                kernel,
+                levels,
+                side,
+                side,
+                plane,
+                &mut undone,
+            ))
+        },
+        &mut || {
+            accepted(reference::undo(
+                kernel,
+                levels,
+                side,
+                side,
+                plane,
+                &mut expected,
+            ))
+        },
+    ]);
+    assert!(undone == expected, "undo: library and reference differ");
+    times
+}
+
+fn transform_rows(kernel: usize, side: usize, levels: usize, samples: &[u16]) -> [Row; 2] {
+    let name = || format!("{} | {levels}", KERNELS[kernel]);
+    let [outside, outside_back] = outside_times(kernel, side, levels, samples);
+    let (times, plane) = transform_times(kernel, side, levels, samples);
+    let times_back = undo_times(kernel, side, levels, &plane);
+    [
+        row(name(), side, times, outside),
+        row(name(), side, times_back, outside_back),
+    ]
+}
+
+/// No rectangle, one over a tenth of the picture, one over all of it.
+fn regions(side: usize) -> [(&'static str, Vec<u32>); 3] {
+    let part = (side as f64 * 0.1_f64.sqrt()) as u32;
+    let first = (side as u32 - part) / 2;
+    [
+        ("none", Vec::new()),
+        ("a tenth", vec![first, first, part, part]),
+        ("all", vec![0, 0, side as u32, side as u32]),
+    ]
+}
+
+const STREAM_KERNEL: usize = 2;
+const STREAM_LEVELS: usize = 5;
+
+/// Plane, mask and stream of one call.
+#[derive(Clone, PartialEq)]
+struct Buffers {
+    plane: Vec<i32>,
+    mask: Vec<u8>,
+    stream: Vec<u8>,
+}
+
+impl Buffers {
+    fn new(samples: usize, total: usize) -> Buffers {
+        Buffers {
+            plane: vec![0; samples],
+            mask: vec![0; samples],
+            stream: vec![0; total],
+        }
+    }
+
+    fn copy_from(&mut self, other: &Buffers) {
+        self.plane.copy_from_slice(&other.plane);
+        self.mask.copy_from_slice(&other.mask);
+        self.stream.copy_from_slice(&other.stream);
+        std::hint::black_box(self);
+    }
+}
+
+/// The writer of either side.
+type Write =
+    fn(&[i32], &[u32], usize, usize, usize, usize, usize, &mut [u8], &mut [u8], &mut [u64]) -> u64;
+
+/// Writes a plane; gives the number returned and the total or needed length.
+fn write(by: Write, side: usize, numbers: &[u32], buffers: &mut Buffers) -> (u64, usize) {
+    let mut results = [0; 3];
+    let number = by(
+        &buffers.plane,
+        numbers,
+        STREAM_KERNEL,
+        STREAM_LEVELS,
+        DEPTH,
+        side,
+        side,
+        &mut buffers.mask,
+        &mut buffers.stream,
+        &mut results,
+    );
+    (number, results[0] as usize)
+}
+
+/// The plane of the picture in buffers for its stream, not yet written.
+fn unwritten(side: usize, numbers: &[u32], samples: &[u16]) -> Buffers {
+    let mut buffers = Buffers::new(side * side, 0);
+    accepted(reference::transform(
+        STREAM_KERNEL,
+        STREAM_LEVELS,
+        DEPTH,
+        side,
+        side,
+        samples,
+        &mut buffers.plane,
+    ));
+    let (number, needed) = write(bindings::write, side, numbers, &mut buffers);
+    assert_eq!(number, 11, "an empty buffer learns the needed length");
+    buffers.stream = vec![0; needed];
+    buffers
+}
+
+fn write_times(side: usize, numbers: &[u32], buffers: &mut Buffers) -> [f64; 3] {
+    let from = buffers.clone();
+    let mut copied = buffers.clone();
+    let mut expected = buffers.clone();
+    let times = best([
+        &mut || copied.copy_from(&from),
+        &mut || accepted(write(bindings::write, side, numbers, buffers).0),
+        &mut || accepted(write(reference::write, side, numbers, &mut expected).0),
+    ]);
+    assert!(*buffers == expected, "write: library and reference differ");
+    times
+}
+
+fn read_times(side: usize, written: &Buffers) -> [f64; 3] {
+    let stream = &written.stream;
+    let mut copied = Buffers::new(side * side, stream.len());
+    let mut read = Buffers::new(side * side, 0);
+    let mut expected = Buffers::new(side * side, 0);
+    let mut results = [0; 139];
+    let mut expected_results = [0; 139];
+    let times = best([
+        &mut || copied.copy_from(written),
+        &mut || {
+            let (plane, mask) = (&mut read.plane, &mut read.mask);
+            accepted(bindings::read(stream, plane, mask, &mut results));
+        },
+        &mut || {
+            let (plane, mask) = (&mut expected.plane, &mut expected.mask);
+            accepted(reference::read(stream, plane, mask, &mut expected_results));
+        },
+    ]);
+    assert!(read == expected && results == expected_results);
+    assert!(read.plane == written.plane, "read: another plane");
+    times
+}
+
+fn stream_rows(side: usize, share: &str, numbers: &[u32], samples: &[u16]) -> [Row; 2] {
+    let mut buffers = unwritten(side, numbers, samples);
+    let times = write_times(side, numbers, &mut buffers);
+    let times_back = read_times(side, &buffers);
+    [
+        row(share.to_string(), side, times, Outside::None),
+        row(share.to_string(), side, times_back, Outside::None),
+    ]
+}
+
+fn print_line(row: &Row) {
+    let ratio = row.library / row.reference;
+    let over_copy = row.library / row.copy;
+    print!("| {} | {} ", row.name, row.side);
+    print!(
+        "| {:.3} | {:.3} | {:.3} ",
+        row.library, row.reference, row.copy
+    );
+    print!("| {ratio:.2} | {over_copy:.1} |");
+}
+
+/// With a column for OpenJPEG if `outside`.
+fn print_table(title: &str, first: &str, rows: &[Row], outside: bool) {
+    println!("## {title}\n");
+    print!("| {first} | side | library | reference | copy ");
+    print!("| library : reference | library : copy |");
+    if outside {
+        print!(" OpenJPEG | library : OpenJPEG |");
+    }
+    let columns = first.matches('|').count() + 6 + if outside { 2 } else { 0 };
+    println!("\n|:--|{}", "---:|".repeat(columns));
+    for row in rows {
+        print_line(row);
+        match row.outside {
+            Outside::Time(time) => println!(" {time:.3} | {:.2} |", row.library / time),
+            Outside::NotInstalled => println!(" not installed | |"),
+            Outside::None if outside => println!(" | |"),
+            Outside::None => println!(),
+        }
+    }
+    println!();
+}
+
+/// Nanoseconds a sample at each size, and how the time grows from the smallest
+/// to the largest.
+fn print_growth(tables: &[(&str, &[Row])]) {
+    let [small, middle, large] = SIDES;
+    let samples = (large * large / (small * small)) as f64;
+    println!("## Growth\n");
+    println!(
+        "Library, nanoseconds a sample. From {small} to {large} the samples are \
+         {samples} times as many; the last column is the time's factor over that, \
+         1 if the time grows as the samples do.\n"
+    );
+    println!("| work | {small} | {middle} | {large} | time's factor | over {samples} |");
+    println!("|:--|---:|---:|---:|---:|---:|");
+    for (name, rows) in tables {
+        for first in rows.iter().filter(|row| row.side == small) {
+            let time = |side| {
+                let same = |row: &&Row| row.name == first.name && row.side == side;
+                rows.iter().find(same).expect("every size").library
+            };
+            let each = |side: usize| time(side) * 1e6 / (side * side) as f64;
+            let factor = time(large) / time(small);
+            print!("| {name}, {} ", first.name.replace(" | ", ", levels "));
+            print!(
+                "| {:.2} | {:.2} | {:.2} ",
+                each(small),
+                each(middle),
+                each(large)
+            );
+            println!("| {factor:.1} | {:.2} |", factor / samples);
+        }
+    }
+    println!();
+}
+
+fn main() {
+    let (mut there, mut back) = (Vec::new(), Vec::new());
+    let (mut written, mut read) = (Vec::new(), Vec::new());
+    for side in SIDES {
+        let samples = picture(side);
+        for kernel in 0..4 {
+            for levels in [1, 5] {
+                let [a, b] = transform_rows(kernel, side, levels, &samples);
+                there.push(a);
+                back.push(b);
+            }
+        }
+        for (share, numbers) in regions(side) {
+            let [a, b] = stream_rows(side, share, &numbers, &samples);
+            written.push(a);
+            read.push(b);
+        }
+    }
+    print_table("Transform", "kernel | levels", &there, true);
+    print_table("Undo", "kernel | levels", &back, true);
+    print_table("Write", "region", &written, false);
+    print_table("Read", "region", &read, false);
+    print_growth(&[
+        ("transform", &there),
+        ("undo", &back),
+        ("write", &written),
+        ("read", &read),
+    ]);
+}

@@ -1,0 +1,50 @@
+//! The best of several rounds, in milliseconds.
+
+use std::time::{Duration, Instant};
+
+const MOST_ROUNDS: usize = 30;
+const LEAST_ROUNDS: usize = 3;
+const ENOUGH: Duration = Duration::from_millis(800);
+/// Work shorter than this is repeated within its turn, since the turns of the
+/// others leave the caches cold.
+const SHORT: Duration = Duration::from_millis(20);
+const REPEATS: usize = 3;
+
+/// The best time of one turn.
+fn turn(work: &mut dyn FnMut()) -> Duration {
+    let mut best = Duration::MAX;
+    for _ in 0..REPEATS {
+        let start = Instant::now();
+        work();
+        best = best.min(start.elapsed());
+        if best > SHORT {
+            break;
+        }
+    }
+    best
+}
+
+/// Runs the pieces of work in turn, round by round, so that a busy spell of the
+/// machine meets all of them, and gives the best time of each.
+pub fn best<const N: usize>(mut works: [&mut dyn FnMut(); N]) -> [f64; N] {
+    let begin = Instant::now();
+    let mut best = [Duration::MAX; N];
+    for rounds in 0..MOST_ROUNDS {
+        if rounds >= LEAST_ROUNDS && begin.elapsed() > ENOUGH {
+            break;
+        }
+        for (work, best) in works.iter_mut().zip(&mut best) {
+            *best = (*best).min(turn(work));
+        }
+    }
+    best.map(|time| time.as_secs_f64() * 1e3)
+}
+
+/// Rounds for the outside program, which counts its own.
+pub fn rounds(side: usize) -> usize {
+    match side {
+        0..=512 => MOST_ROUNDS,
+        513..=2048 => 8,
+        _ => 4,
+    }
+}

@@ -1,0 +1,311 @@
+//! The static library of the C interface, for Rust.
+//!
+//! A slice parameter of the interface is a pointer followed by its number of
+//! elements; an empty slice needs a pointer that is not null, as every slice of
+//! Rust has one. Every function returns the refusal's number, 0 if none.
+
+/// The functions as the library exports them.
+pub mod raw {
+    extern "C" {
+        pub fn dhiirqobaal_region(
+            numbers: *const u32,
+            numbers_len: usize,
+            w: usize,
+            h: usize,
+            region: *mut u8,
+            region_len: usize,
+        ) -> u64;
+        pub fn dhiirqobaal_mask(
+            kernel: usize,
+            levels: usize,
+            w: usize,
+            h: usize,
+            region: *const u8,
+            region_len: usize,
+            mask: *mut u8,
+            mask_len: usize,
+        ) -> u64;
+        pub fn dhiirqobaal_transform(
+            kernel: usize,
+            levels: usize,
+            depth: usize,
+            w: usize,
+            h: usize,
+            samples: *const u16,
+            samples_len: usize,
+            plane: *mut i32,
+            plane_len: usize,
+        ) -> u64;
+        pub fn dhiirqobaal_undo(
+            kernel: usize,
+            levels: usize,
+            w: usize,
+            h: usize,
+            plane: *const i32,
+            plane_len: usize,
+            undone: *mut i32,
+            undone_len: usize,
+        ) -> u64;
+        pub fn dhiirqobaal_show(
+            depth: usize,
+            w: usize,
+            h: usize,
+            undone: *const i32,
+            undone_len: usize,
+            shown: *mut u16,
+            shown_len: usize,
+        ) -> u64;
+        pub fn dhiirqobaal_truncate(
+            q: usize,
+            w: usize,
+            h: usize,
+            mask: *const u8,
+            mask_len: usize,
+            plane: *mut i32,
+            plane_len: usize,
+        ) -> u64;
+        pub fn dhiirqobaal_write(
+            plane: *const i32,
+            plane_len: usize,
+            numbers: *const u32,
+            numbers_len: usize,
+            kernel: usize,
+            levels: usize,
+            depth: usize,
+            w: usize,
+            h: usize,
+            mask: *mut u8,
+            mask_len: usize,
+            stream: *mut u8,
+            stream_len: usize,
+            results: *mut u64,
+            results_len: usize,
+        ) -> u64;
+        pub fn dhiirqobaal_read(
+            stream: *const u8,
+            stream_len: usize,
+            plane: *mut i32,
+            plane_len: usize,
+            mask: *mut u8,
+            mask_len: usize,
+            results: *mut u64,
+            results_len: usize,
+        ) -> u64;
+        pub fn dhiirqobaal_cut(
+            stream: *const u8,
+            stream_len: usize,
+            wanted: usize,
+            plane: *mut i32,
+            plane_len: usize,
+            mask: *mut u8,
+            mask_len: usize,
+            out: *mut u8,
+            out_len: usize,
+            results: *mut u64,
+            results_len: usize,
+        ) -> u64;
+        pub fn dhiirqobaal_body(
+            stream: *const u8,
+            stream_len: usize,
+            results: *mut u64,
+            results_len: usize,
+        ) -> u64;
+    }
+}
+
+// SAFETY of every function below: a slice's pointer stands before its number of
+// elements, and a slice lent for writing overlaps no other.
+
+pub fn region(numbers: &[u32], w: usize, h: usize, region: &mut [u8]) -> u64 {
+    unsafe {
+        raw::dhiirqobaal_region(
+            numbers.as_ptr(),
+            numbers.len(),
+            w,
+            h,
+            region.as_mut_ptr(),
+            region.len(),
+        )
+    }
+}
+
+pub fn mask(
+    kernel: usize,
+    levels: usize,
+    w: usize,
+    h: usize,
+    region: &[u8],
+    mask: &mut [u8],
+) -> u64 {
+    unsafe {
+        raw::dhiirqobaal_mask(
+            kernel,
+            levels,
+            w,
+            h,
+            region.as_ptr(),
+            region.len(),
+            mask.as_mut_ptr(),
+            mask.len(),
+        )
+    }
+}
+
+pub fn transform(
+    kernel: usize,
+    levels: usize,
+    depth: usize,
+    w: usize,
+    h: usize,
+    samples: &[u16],
+    plane: &mut [i32],
+) -> u64 {
+    unsafe {
+        raw::dhiirqobaal_transform(
+            kernel,
+            levels,
+            depth,
+            w,
+            h,
+            samples.as_ptr(),
+            samples.len(),
+            plane.as_mut_ptr(),
+            plane.len(),
+        )
+    }
+}
+
+pub fn undo(
+    kernel: usize,
+    levels: usize,
+    w: usize,
+    h: usize,
+    plane: &[i32],
+    undone: &mut [i32],
+) -> u64 {
+    unsafe {
+        raw::dhiirqobaal_undo(
+            kernel,
+            levels,
+            w,
+            h,
+            plane.as_ptr(),
+            plane.len(),
+            undone.as_mut_ptr(),
+            undone.len(),
+        )
+    }
+}
+
+pub fn show(depth: usize, w: usize, h: usize, undone: &[i32], shown: &mut [u16]) -> u64 {
+    unsafe {
+        raw::dhiirqobaal_show(
+            depth,
+            w,
+            h,
+            undone.as_ptr(),
+            undone.len(),
+            shown.as_mut_ptr(),
+            shown.len(),
+        )
+    }
+}
+
+pub fn truncate(q: usize, w: usize, h: usize, mask: &[u8], plane: &mut [i32]) -> u64 {
+    unsafe {
+        raw::dhiirqobaal_truncate(
+            q,
+            w,
+            h,
+            mask.as_ptr(),
+            mask.len(),
+            plane.as_mut_ptr(),
+            plane.len(),
+        )
+    }
+}
+
+#[allow(clippy::too_many_arguments)]
+pub fn write(
+    plane: &[i32],
+    numbers: &[u32],
+    kernel: usize,
+    levels: usize,
+    depth: usize,
+    w: usize,
+    h: usize,
+    mask: &mut [u8],
+    stream: &mut [u8],
+    results: &mut [u64],
+) -> u64 {
+    unsafe {
+        raw::dhiirqobaal_write(
+            plane.as_ptr(),
+            plane.len(),
+            numbers.as_ptr(),
+            numbers.len(),
+            kernel,
+            levels,
+            depth,
+            w,
+            h,
+            mask.as_mut_ptr(),
+            mask.len(),
+            stream.as_mut_ptr(),
+            stream.len(),
+            results.as_mut_ptr(),
+            results.len(),
+        )
+    }
+}
+
+pub fn read(stream: &[u8], plane: &mut [i32], mask: &mut [u8], results: &mut [u64]) -> u64 {
+    unsafe {
+        raw::dhiirqobaal_read(
+            stream.as_ptr(),
+            stream.len(),
+            plane.as_mut_ptr(),
+            plane.len(),
+            mask.as_mut_ptr(),
+            mask.len(),
+            results.as_mut_ptr(),
+            results.len(),
+        )
+    }
+}
+
+pub fn cut(
+    stream: &[u8],
+    wanted: usize,
+    plane: &mut [i32],
+    mask: &mut [u8],
+    out: &mut [u8],
+    results: &mut [u64],
+) -> u64 {
+    unsafe {
+        raw::dhiirqobaal_cut(
+            stream.as_ptr(),
+            stream.len(),
+            wanted,
+            plane.as_mut_ptr(),
+            plane.len(),
+            mask.as_mut_ptr(),
+            mask.len(),
+            out.as_mut_ptr(),
+            out.len(),
+            results.as_mut_ptr(),
+            results.len(),
+        )
+    }
+}
+
+pub fn body(stream: &[u8], results: &mut [u64]) -> u64 {
+    unsafe {
+        raw::dhiirqobaal_body(
+            stream.as_ptr(),
+            stream.len(),
+            results.as_mut_ptr(),
+            results.len(),
+        )
+    }
+}

@@ -1,0 +1,11 @@
+#!/bin/sh
+# Proves and builds the static library, builds the tool and runs the demonstration.
+# Usage: run.sh [DIR]; the pictures and streams go to DIR (default: target/demo in the repository).
+set -eu
+
+root=$(cd "$(dirname "$0")/../.." && pwd)
+folder=${1:-"$root/target/demo"}
+
+(cd "$root" && rt staticlib interface)
+(cd "$root/host/tool" && CARGO_TARGET_DIR="$root/target/host" cargo build --release --offline --jobs 2)
+"$root/target/host/release/dhiirqobaal" demo "$folder"

@@ -1,0 +1,492 @@
+//! The entries without a stream to read: accepted arguments, one wrong
+//! argument, several wrong ones (which shows the order of the refusals).
+
+use crate::call::Call;
+use crate::group::Group;
+use crate::guarded::held;
+use crate::random::Random;
+use crate::shots::{self, Shape, MAGNITUDE_LIMIT};
+
+/// The arguments of all these entries, accepted until something is spoiled.
+struct Setup {
+    shape: Shape,
+    q: usize,
+    samples: Vec<u16>,
+    plane: Vec<i32>,
+    undone: Vec<i32>,
+    region: Vec<u8>,
+    mask: Vec<u8>,
+    /// Length of the output buffer of W·H elements.
+    out_len: usize,
+    stream_len: usize,
+    results_len: usize,
+}
+
+fn mark_bytes(random: &mut Random, len: usize) -> Vec<u8> {
+    let odds = random.pick(&[1, 2, 5, 40]);
+    (0..len).map(|_| u8::from(random.once_in(odds))).collect()
+}
+
+fn any_numbers(random: &mut Random, len: usize) -> Vec<i32> {
+    let shift = random.below(32);
+    (0..len)
+        .map(|_| match random.below(20) {
+            0 => random.pick(&[i32::MIN, i32::MAX, -1, 0, 1]),
+            _ => random.number() as i32 >> shift,
+        })
+        .collect()
+}
+
+fn setup(random: &mut Random, shape: Shape) -> Setup {
+    let len = shape.len();
+    Setup {
+        q: random.within(0, 22),
+        samples: shots::samples(random, &shape),
+        plane: shots::some_plane(random, &shape),
+        undone: any_numbers(random, len),
+        region: mark_bytes(random, len),
+        mask: mark_bytes(random, len),
+        out_len: len,
+        stream_len: stream_len(random, &shape),
+        results_len: random.pick(&shots::WRITE_RESULTS),
+        shape,
+    }
+}
+
+/// Long enough for any body, now and then too short.
+fn stream_len(random: &mut Random, shape: &Shape) -> usize {
+    let enough = 14 + 2 * shape.numbers.len() + 3 * shape.len();
+    match random.below(8) {
+        0 => random.below(enough),
+        1 => random.below(15),
+        _ => enough,
+    }
+}
+
+/// Builds the call of one entry.
+type Entry = fn(&Setup) -> Call;
+
+fn region(setup: &Setup) -> Call {
+    Call::Region {
+        numbers: setup.shape.numbers.clone(),
+        w: setup.shape.w,
+        h: setup.shape.h,
+        region: held(setup.out_len),
+    }
+}
+
+fn mask(setup: &Setup) -> Call {
+    Call::Mask {
+        kernel: setup.shape.kernel,
+        levels: setup.shape.levels,
+        w: setup.shape.w,
+        h: setup.shape.h,
+        region: setup.region.clone(),
+        mask: held(setup.out_len),
+    }
+}
+
+fn transform(setup: &Setup) -> Call {
+    Call::Transform {
+        kernel: setup.shape.kernel,
+        levels: setup.shape.levels,
+        depth: setup.shape.depth,
+        w: setup.shape.w,
+        h: setup.shape.h,
+        samples: setup.samples.clone(),
+        plane: held(setup.out_len),
+    }
+}
+
+fn undo(setup: &Setup) -> Call {
+    Call::Undo {
+        kernel: setup.shape.kernel,
+        levels: setup.shape.levels,
+        w: setup.shape.w,
+        h: setup.shape.h,
+        plane: setup.plane.clone(),
+        undone: held(setup.out_len),
+    }
+}
+
+fn show(setup: &Setup) -> Call {
+    Call::Show {
+        depth: setup.shape.depth,
+        w: setup.shape.w,
+        h: setup.shape.h,
+        undone: setup.undone.clone(),
+        shown: held(setup.out_len),
+    }
+}
+
+fn truncate(setup: &Setup) -> Call {
+    Call::Truncate {
+        q: setup.q,
+        w: setup.shape.w,
+        h: setup.shape.h,
+        mask: setup.mask.clone(),
+        plane: setup.plane.clone(),
+    }
+}
+
+fn write(setup: &Setup) -> Call {
+    Call::Write {
+        plane: setup.plane.clone(),
+        numbers: setup.shape.numbers.clone(),
+        kernel: setup.shape.kernel,
+        levels: setup.shape.levels,
+        depth: setup.shape.depth,
+        w: setup.shape.w,
+        h: setup.shape.h,
+        mask: held(setup.out_len),
+        stream: held(setup.stream_len),
+        results: held(setup.results_len),
+    }
+}
+
+const TOP: usize = usize::MAX;
+const WRONG_KERNELS: [usize; 9] = [4, 5, 255, 256, 300, 1 << 32, (1 << 32) + 1, 1 << 63, TOP];
+const WRONG_LEVELS: [usize; 9] = [0, 6, 7, 63, 64, 256 + 1, (1 << 32) + 1, 1 << 63, TOP];
+const WRONG_DEPTHS: [usize; 9] = [0, 11, 12, 16, 32, 256 + 8, (1 << 32) + 8, 1 << 63, TOP];
+const WRONG_PLANES: [usize; 8] = [23, 24, 31, 32, 64, 1 << 32, 1 << 63, TOP];
+const WRONG_SIDES: [usize; 17] = [
+    0,
+    1,
+    3,
+    33,
+    4095,
+    4096,
+    4097,
+    4098,
+    4128,
+    1 << 16,
+    (1 << 16) + 32,
+    1 << 32,
+    (1 << 32) + 32,
+    1 << 40,
+    1 << 63,
+    (1 << 63) + 32,
+    TOP,
+];
+const WRONG_MAGNITUDES: [i32; 7] = [
+    MAGNITUDE_LIMIT,
+    -MAGNITUDE_LIMIT,
+    MAGNITUDE_LIMIT + 1,
+    -MAGNITUDE_LIMIT - 1,
+    i32::MAX,
+    i32::MIN,
+    i32::MIN + 1,
+];
+
+fn wrong_side(random: &mut Random, side: usize, levels: usize) -> usize {
+    match random.below(6) {
+        0 => side.wrapping_add(1),
+        1 => side.wrapping_sub(1),
+        // A side that may be accepted, but is not that of the buffers.
+        2 => side.wrapping_add(1 << levels.min(5)),
+        _ => random.pick(&WRONG_SIDES),
+    }
+}
+
+fn wrong_length(random: &mut Random, len: usize) -> usize {
+    match random.below(5) {
+        0 => 0,
+        1 => len + 1,
+        2 => len + random.within(1, 70),
+        3 => 1,
+        _ => len.saturating_sub(1),
+    }
+}
+
+fn put_somewhere<T: Copy>(random: &mut Random, buffer: &mut [T], element: T) {
+    if buffer.is_empty() {
+        return;
+    }
+    let last = buffer.len() - 1;
+    let place = match random.below(4) {
+        0 => 0,
+        1 => last,
+        _ => random.within(0, last),
+    };
+    buffer[place] = element;
+}
+
+/// Puts a wrong rectangle into the list.
+fn spoil_rectangle(random: &mut Random, shape: &mut Shape, wrong: [u32; 4]) {
+    if shape.numbers.len() < 4 || (shape.numbers.len() < 128 && random.once_in(2)) {
+        shape.numbers.extend(wrong);
+    } else {
+        let place = 4 * random.below(shape.numbers.len() / 4);
+        shape.numbers[place..place + 4].copy_from_slice(&wrong);
+    }
+}
+
+/// Empty, just outside, far outside, and sums that come round to small ones.
+fn wrong_rectangle(random: &mut Random, w: usize, h: usize) -> [u32; 4] {
+    let (w, h) = (w as u32, h as u32);
+    let inside = random.below(w.max(1) as usize) as u32;
+    let mut rectangle = match random.below(12) {
+        0 => [inside, 0, 0, 1],
+        1 => [w, 0, 0, 1],
+        2 => [0, 0, 0, 0],
+        3 => [w, 0, 1, 1],
+        4 => [inside, 0, w.wrapping_sub(inside).wrapping_add(1), 1],
+        5 => [u32::MAX, 0, 1, 1],
+        6 => [u32::MAX, 0, 2, 1],
+        7 => [u32::MAX - inside, 0, inside + 2, 1],
+        8 => [inside, 0, u32::MAX, 1],
+        9 => [inside, 0, u32::MAX - inside + 1, 1],
+        10 => [(1 << 16) + inside, 0, 1, 1],
+        _ => [inside, 0, (1 << 16) + 1, 1],
+    };
+    // The same for y and height, whose limit may be another.
+    if random.once_in(2) {
+        rectangle = [rectangle[1], rectangle[0], rectangle[3], rectangle[2]];
+        if rectangle[1] == w {
+            rectangle[1] = h;
+        }
+    }
+    rectangle
+}
+
+/// Kinds of spoiling, by number.
+const KINDS: usize = 18;
+
+fn spoil(random: &mut Random, setup: &mut Setup, kind: usize) {
+    let shape = &mut setup.shape;
+    match kind {
+        0 => shape.kernel = random.pick(&WRONG_KERNELS),
+        1 => shape.levels = random.pick(&WRONG_LEVELS),
+        2 => shape.depth = random.pick(&WRONG_DEPTHS),
+        3 => setup.q = random.pick(&WRONG_PLANES),
+        4 => shape.w = wrong_side(random, shape.w, shape.levels),
+        5 => shape.h = wrong_side(random, shape.h, shape.levels),
+        6 => {
+            let len = wrong_length(random, setup.plane.len());
+            setup.samples.resize(len, 0);
+            setup.plane.resize(len, 0);
+            setup.undone.resize(len, 0);
+            setup.region.resize(len, 0);
+        }
+        7 => {
+            let len = wrong_length(random, setup.out_len);
+            setup.out_len = len;
+            setup.mask.resize(len, 0);
+        }
+        8 => {
+            let limit = 1 << shape.depth.min(15);
+            let sample = random.pick(&[limit, limit + 1, u16::MAX]);
+            put_somewhere(random, &mut setup.samples, sample);
+        }
+        9 => {
+            let byte = random.pick(&[2, 3, 128, 255]);
+            put_somewhere(random, &mut setup.region, byte);
+        }
+        10 => {
+            let byte = random.pick(&[2, 3, 128, 255]);
+            put_somewhere(random, &mut setup.mask, byte);
+        }
+        11 => {
+            let magnitude = random.pick(&WRONG_MAGNITUDES);
+            put_somewhere(random, &mut setup.plane, magnitude);
+        }
+        12 => {
+            let more = random.within(1, 3);
+            let len = shape.numbers.len() + more;
+            shape.numbers.resize(len, 1);
+        }
+        13 => {
+            let count = random.pick(&[33, 34, 64, 256, 288]);
+            shape.numbers = [0, 0, 1, 1].repeat(count);
+        }
+        14 | 15 => {
+            let wrong = wrong_rectangle(random, shape.w, shape.h);
+            spoil_rectangle(random, shape, wrong);
+        }
+        16 => setup.stream_len = random.below(setup.stream_len + 1),
+        _ => {
+            // W and H exchanged: accepted lengths, another picture.
+            (shape.w, shape.h) = (shape.h, shape.w);
+        }
+    }
+}
+
+fn accepted(group: &mut Group, random: &mut Random, entry: Entry) {
+    let shape = shots::common_shape(random);
+    group.compare(entry(&setup(random, shape)));
+}
+
+fn one_wrong(group: &mut Group, random: &mut Random, entry: Entry) {
+    let shape = shots::shape(random, 16);
+    let mut setup = setup(random, shape);
+    spoil(random, &mut setup, group.case as usize % KINDS);
+    group.compare(entry(&setup));
+}
+
+fn several_wrong(group: &mut Group, random: &mut Random, entry: Entry) {
+    let shape = shots::shape(random, 16);
+    let mut setup = setup(random, shape);
+    for _ in 0..random.within(2, 6) {
+        let kind = random.below(KINDS);
+        spoil(random, &mut setup, kind);
+    }
+    group.compare(entry(&setup));
+}
+
+/// The three groups of one entry.
+macro_rules! groups {
+    ($entry:ident) => {
+        pub mod $entry {
+            use super::*;
+            pub fn accepted(group: &mut Group, random: &mut Random) {
+                super::accepted(group, random, super::$entry);
+            }
+            pub fn one_wrong(group: &mut Group, random: &mut Random) {
+                super::one_wrong(group, random, super::$entry);
+            }
+            pub fn several_wrong(group: &mut Group, random: &mut Random) {
+                super::several_wrong(group, random, super::$entry);
+            }
+        }
+    };
+}
+
+groups!(region);
+groups!(mask);
+groups!(transform);
+groups!(undo);
+groups!(show);
+groups!(truncate);
+groups!(write);
+
+/// Sides without a level count: every size of a call that has none.
+pub fn odd_sides(group: &mut Group, random: &mut Random) {
+    let (w, h) = (random.within(1, 40), random.within(1, 40));
+    let shape = Shape {
+        kernel: 0,
+        levels: 1,
+        depth: random.within(1, 10),
+        w,
+        h,
+        numbers: shots::rectangles(random, w, h),
+    };
+    let mut setup = Setup {
+        samples: Vec::new(),
+        plane: shots::plane(random, w * h),
+        ..setup(
+            random,
+            Shape {
+                w: 2,
+                h: 2,
+                numbers: Vec::new(),
+                ..shape.clone()
+            },
+        )
+    };
+    setup.undone = any_numbers(random, w * h);
+    setup.mask = mark_bytes(random, w * h);
+    setup.out_len = w * h;
+    setup.shape = shape;
+    for entry in [region, show, truncate] {
+        group.compare(entry(&setup));
+    }
+}
+
+/// Every region of 4 by 4 samples, for every kernel, at one and two levels.
+pub fn every_small_region(group: &mut Group, _: &mut Random) {
+    let bits = group.case;
+    let region: Vec<u8> = (0..16).map(|i| (bits >> i & 1) as u8).collect();
+    for kernel in 0..4 {
+        for levels in 1..=2 {
+            group.compare(Call::Mask {
+                kernel,
+                levels,
+                w: 4,
+                h: 4,
+                region: region.clone(),
+                mask: held(16),
+            });
+        }
+    }
+}
+
+/// Every plane of 4 by 2 coefficients from −2 to 1, and every such picture of
+/// depth 2, for every kernel.
+pub fn every_small_plane(group: &mut Group, _: &mut Random) {
+    let digits = group.case;
+    let samples: Vec<u16> = (0..8).map(|i| (digits >> (2 * i) & 3) as u16).collect();
+    let plane: Vec<i32> = samples.iter().map(|&s| i32::from(s) - 2).collect();
+    for kernel in 0..4 {
+        group.compare(Call::Transform {
+            kernel,
+            levels: 1,
+            depth: 2,
+            w: 4,
+            h: 2,
+            samples: samples.clone(),
+            plane: held(8),
+        });
+        group.compare(Call::Undo {
+            kernel,
+            levels: 1,
+            w: 4,
+            h: 2,
+            plane: plane.clone(),
+            undone: held(8),
+        });
+    }
+}
+
+/// The writer with every length of the stream buffer and of the results.
+pub fn every_stream_buffer(group: &mut Group, random: &mut Random) {
+    let written = shots::tiny_written(random);
+    for stream_len in 0..written.stream.len() + 3 {
+        group.compare(Call::Write {
+            plane: written.plane.clone(),
+            numbers: written.shape.numbers.clone(),
+            kernel: written.shape.kernel,
+            levels: written.shape.levels,
+            depth: written.shape.depth,
+            w: written.shape.w,
+            h: written.shape.h,
+            mask: held(written.shape.len()),
+            stream: held(stream_len),
+            results: held(stream_len % 5),
+        });
+    }
+}
+
+/// Undoes a plane with the reference.
+fn undone(kernel: usize, levels: usize, side: usize, plane: &[i32]) -> Vec<i32> {
+    let mut undone = vec![0; side * side];
+    let number = reference::undo(kernel, levels, side, side, plane, &mut undone);
+    assert_eq!(number, 0, "the plane is accepted");
+    undone
+}
+
+/// The accepted planes whose undone number at one place is about as far from 0
+/// as any: each coefficient takes the largest magnitude with the sign in which
+/// it alone moves that number.
+pub fn greatest_growth(group: &mut Group, random: &mut Random) {
+    let kernel = group.case as usize % 4;
+    let levels = 1 + group.case as usize / 4 % 5;
+    let side = 2 << levels;
+    let place = random.below(side * side);
+    let mut plane = vec![0; side * side];
+    let mut signs = Vec::new();
+    for i in 0..side * side {
+        plane[i] = 1 << 20;
+        signs.push(undone(kernel, levels, side, &plane)[place].signum());
+        plane[i] = 0;
+    }
+    for top in [MAGNITUDE_LIMIT - 1, 1 - MAGNITUDE_LIMIT] {
+        group.compare(Call::Undo {
+            kernel,
+            levels,
+            w: side,
+            h: side,
+            plane: signs.iter().map(|sign| sign * top).collect(),
+            undone: held(side * side),
+        });
+    }
+}

@@ -1,0 +1,348 @@
+//! The exact-region panel shot, written from document 01 alone and for
+//! comparison alone: direct code, no care for time or space.
+//!
+//! Every function takes the parameters of the C interface's function of that
+//! name, a slice for each pointer and length, and returns the refusal's
+//! number, 0 if none. Result number i goes into `results[i]` where there is
+//! such a cell.
+
+mod levels;
+mod line;
+mod refusal;
+mod stream;
+
+use refusal::Tested;
+use stream::Header;
+
+/// Result numbers of the reader: eleven, then four for each of 32 rectangles.
+pub const READ_RESULTS: usize = 11 + 4 * refusal::MOST_RECTANGLES;
+
+/// Puts the result numbers into the cells that are there.
+fn put(results: &mut [u64], numbers: &[u64]) {
+    for (cell, &number) in results.iter_mut().zip(numbers) {
+        *cell = number;
+    }
+}
+
+/// Back to 32 bits; document 01's limits keep every number within them.
+fn narrow(numbers: &[i64], out: &mut [i32]) {
+    for (cell, &number) in out.iter_mut().zip(numbers) {
+        *cell = i32::try_from(number).expect("an accepted plane stays in 32 bits");
+    }
+}
+
+/// One byte a sample, 1 inside any rectangle.
+fn region_of(numbers: &[u32], w: usize, h: usize) -> Vec<u8> {
+    let mut region = vec![0; w * h];
+    for rectangle in numbers.chunks(4) {
+        let [x, y, width, height] = [0, 1, 2, 3].map(|i| rectangle[i] as usize);
+        for row in y..y + height {
+            for column in x..x + width {
+                region[row * w + column] = 1;
+            }
+        }
+    }
+    region
+}
+
+fn mask_of(region: &[u8], kernel: usize, levels: usize, w: usize, h: usize) -> Vec<u8> {
+    let mut marks: Vec<bool> = region.iter().map(|&byte| byte == 1).collect();
+    levels::forward(&mut marks, levels, w, h, |x| line::marks(kernel, x));
+    marks.into_iter().map(u8::from).collect()
+}
+
+fn count_marks(mask: &[u8]) -> u64 {
+    mask.iter().map(|&byte| u64::from(byte)).sum()
+}
+
+pub fn region(numbers: &[u32], w: usize, h: usize, region: &mut [u8]) -> u64 {
+    let tested = || -> Tested {
+        refusal::sides(w, h)?;
+        refusal::rectangles(numbers, w, h)?;
+        refusal::length(region.len(), w, h)
+    };
+    if let Err(number) = tested() {
+        return number;
+    }
+    region.copy_from_slice(&region_of(numbers, w, h));
+    0
+}
+
+pub fn mask(
+    kernel: usize,
+    levels: usize,
+    w: usize,
+    h: usize,
+    region: &[u8],
+    mask: &mut [u8],
+) -> u64 {
+    let tested = || -> Tested {
+        refusal::kernel(kernel)?;
+        refusal::levels(levels)?;
+        refusal::sides_with_levels(w, h, levels)?;
+        refusal::length(region.len(), w, h)?;
+        refusal::length(mask.len(), w, h)?;
+        refusal::marks(region)
+    };
+    if let Err(number) = tested() {
+        return number;
+    }
+    mask.copy_from_slice(&mask_of(region, kernel, levels, w, h));
+    0
+}
+
+pub fn transform(
+    kernel: usize,
+    levels: usize,
+    depth: usize,
+    w: usize,
+    h: usize,
+    samples: &[u16],
+    plane: &mut [i32],
+) -> u64 {
+    let tested = || -> Tested {
+        refusal::kernel(kernel)?;
+        refusal::levels(levels)?;
+        refusal::depth(depth)?;
+        refusal::sides_with_levels(w, h, levels)?;
+        refusal::length(samples.len(), w, h)?;
+        refusal::length(plane.len(), w, h)?;
+        refusal::samples(samples, depth)
+    };
+    if let Err(number) = tested() {
+        return number;
+    }
+    let mut numbers: Vec<i64> = samples.iter().map(|&s| i64::from(s)).collect();
+    levels::forward(&mut numbers, levels, w, h, |x| line::forward(kernel, x));
+    narrow(&numbers, plane);
+    0
+}
+
+pub fn undo(
+    kernel: usize,
+    levels: usize,
+    w: usize,
+    h: usize,
+    plane: &[i32],
+    undone: &mut [i32],
+) -> u64 {
+    let tested = || -> Tested {
+        refusal::kernel(kernel)?;
+        refusal::levels(levels)?;
+        refusal::sides_with_levels(w, h, levels)?;
+        refusal::length(plane.len(), w, h)?;
+        refusal::length(undone.len(), w, h)?;
+        refusal::magnitudes(plane)
+    };
+    if let Err(number) = tested() {
+        return number;
+    }
+    let mut numbers: Vec<i64> = plane.iter().map(|&c| i64::from(c)).collect();
+    levels::backward(&mut numbers, levels, w, h, |x| line::backward(kernel, x));
+    narrow(&numbers, undone);
+    0
+}
+
+pub fn show(depth: usize, w: usize, h: usize, undone: &[i32], shown: &mut [u16]) -> u64 {
+    let tested = || -> Tested {
+        refusal::depth(depth)?;
+        refusal::sides(w, h)?;
+        refusal::length(undone.len(), w, h)?;
+        refusal::length(shown.len(), w, h)
+    };
+    if let Err(number) = tested() {
+        return number;
+    }
+    let top = (1 << depth) - 1;
+    for (sample, &number) in shown.iter_mut().zip(undone) {
+        *sample = number.clamp(0, top) as u16;
+    }
+    0
+}
+
+pub fn truncate(q: usize, w: usize, h: usize, mask: &[u8], plane: &mut [i32]) -> u64 {
+    let tested = || -> Tested {
+        refusal::dropped(q)?;
+        refusal::sides(w, h)?;
+        refusal::length(mask.len(), w, h)?;
+        refusal::length(plane.len(), w, h)?;
+        refusal::marks(mask)?;
+        refusal::magnitudes(plane)
+    };
+    if let Err(number) = tested() {
+        return number;
+    }
+    let step = 1 << q;
+    for (c, &mark) in plane.iter_mut().zip(mask) {
+        if mark == 0 {
+            *c = c.signum() * (c.abs() / step * step);
+        }
+    }
+    0
+}
+
+#[allow(clippy::too_many_arguments)]
+pub fn write(
+    plane: &[i32],
+    numbers: &[u32],
+    kernel: usize,
+    levels: usize,
+    depth: usize,
+    w: usize,
+    h: usize,
+    mask: &mut [u8],
+    stream: &mut [u8],
+    results: &mut [u64],
+) -> u64 {
+    put(results, &[0; 3]);
+    let tested = || -> Tested {
+        refusal::kernel(kernel)?;
+        refusal::levels(levels)?;
+        refusal::depth(depth)?;
+        refusal::sides_with_levels(w, h, levels)?;
+        refusal::rectangles(numbers, w, h)?;
+        refusal::length(plane.len(), w, h)?;
+        refusal::length(mask.len(), w, h)?;
+        refusal::magnitudes(plane)
+    };
+    if let Err(number) = tested() {
+        return number;
+    }
+    mask.copy_from_slice(&mask_of(&region_of(numbers, w, h), kernel, levels, w, h));
+    let header = Header {
+        kernel,
+        levels,
+        depth,
+        w,
+        h,
+        planes: stream::plane_count(plane),
+        numbers: numbers.to_vec(),
+    };
+    let (body, marked) = stream::encode(plane, mask, header.planes);
+    let start = stream::body_start(numbers.len() / 4);
+    let total = start + body.len();
+    if stream.len() < total {
+        put(results, &[total as u64]);
+        return 11;
+    }
+    stream[..start].copy_from_slice(&stream::header_bytes(&header, total));
+    stream[start..total].copy_from_slice(&body);
+    put(
+        results,
+        &[total as u64, (start + marked) as u64, count_marks(mask)],
+    );
+    0
+}
+
+/// What the reader returns beside plane and mask.
+struct Answer {
+    header: Header,
+    marks: u64,
+    whole: bool,
+    region_mark: usize,
+    q: usize,
+}
+
+impl Answer {
+    fn results(&self) -> Vec<u64> {
+        let header = &self.header;
+        let mut results = vec![
+            self.marks,
+            u64::from(self.whole),
+            self.region_mark as u64,
+            self.q as u64,
+            header.kernel as u64,
+            header.levels as u64,
+            header.depth as u64,
+            header.w as u64,
+            header.h as u64,
+            header.planes as u64,
+            header.numbers.len() as u64 / 4,
+        ];
+        results.extend(header.numbers.iter().map(|&number| u64::from(number)));
+        results.resize(READ_RESULTS, 0);
+        results
+    }
+}
+
+/// The reader without its result cells; the cutter begins with it.
+fn read_stream(stream: &[u8], plane: &mut [i32], mask: &mut [u8]) -> Result<Answer, u64> {
+    let (header, start) = stream::parse(stream)?;
+    let (w, h) = (header.w, header.h);
+    refusal::length(plane.len(), w, h)?;
+    refusal::length(mask.len(), w, h)?;
+    let region = region_of(&header.numbers, w, h);
+    let marks = mask_of(&region, header.kernel, header.levels, w, h);
+    let decoded = match stream::decode(&stream[start..], &marks, header.planes) {
+        Ok(decoded) => decoded,
+        Err(number) => {
+            plane.fill(0);
+            mask.fill(0);
+            return Err(number);
+        }
+    };
+    narrow(&decoded.plane, plane);
+    mask.copy_from_slice(&marks);
+    Ok(Answer {
+        header,
+        marks: count_marks(mask),
+        whole: decoded.whole,
+        region_mark: if decoded.whole {
+            start + decoded.marked
+        } else {
+            0
+        },
+        q: decoded.q,
+    })
+}
+
+pub fn read(stream: &[u8], plane: &mut [i32], mask: &mut [u8], results: &mut [u64]) -> u64 {
+    match read_stream(stream, plane, mask) {
+        Ok(answer) => {
+            put(results, &answer.results());
+            0
+        }
+        Err(number) => {
+            put(results, &[0; READ_RESULTS]);
+            number
+        }
+    }
+}
+
+pub fn cut(
+    stream: &[u8],
+    wanted: usize,
+    plane: &mut [i32],
+    mask: &mut [u8],
+    out: &mut [u8],
+    results: &mut [u64],
+) -> u64 {
+    put(results, &[0]);
+    let answer = match read_stream(stream, plane, mask) {
+        Ok(answer) => answer,
+        Err(number) => return number,
+    };
+    if !answer.whole || wanted < answer.region_mark || wanted > stream.len() {
+        return 15;
+    }
+    put(results, &[wanted as u64]);
+    if out.len() < wanted {
+        return 11;
+    }
+    out[..wanted].copy_from_slice(&stream[..wanted]);
+    out[..4].copy_from_slice(&(wanted as u32 - 4).to_be_bytes());
+    0
+}
+
+pub fn body(stream: &[u8], results: &mut [u64]) -> u64 {
+    match stream::find_body(stream) {
+        Ok(start) => {
+            put(results, &[start as u64, (stream.len() - start) as u64]);
+            0
+        }
+        Err(number) => {
+            put(results, &[0; 2]);
+            number
+        }
+    }
+}

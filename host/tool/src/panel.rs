@@ -1,0 +1,229 @@
+//! Draws an operator panel: title, part numbers, lamps, gauges and buttons on a shaded plate.
+
+use crate::font;
+use crate::pgm::Picture;
+
+pub const WIDTH: usize = 640;
+pub const HEIGHT: usize = 480;
+
+const LAMPS: [(&str, bool); 6] =
+    [("GUARD", true), ("DOOR", true), ("DRIVE", false), ("OIL", true), ("E-STOP", false), ("AUTO", true)];
+const LAMP_Y: f64 = 172.0;
+const GAUGES: [(&str, f64); 3] = [("BAR", 0.31), ("RPM", 0.78), ("DEG C", 0.55)];
+const GAUGE_Y: f64 = 318.0;
+const BUTTONS: [&str; 4] = ["START", "STOP", "RESET", "JOG"];
+const WINDOWS: [(f64, &str); 2] = [(34.0, "PN 7341-22-B"), (350.0, "RECIPE 0187-C")];
+
+/// An area in samples; x and y of its upper left corner.
+struct Area {
+    x: f64,
+    y: f64,
+    width: f64,
+    height: f64,
+}
+
+impl Area {
+    fn around(x: f64, y: f64, reach: f64) -> Area {
+        Area { x: x - reach, y: y - reach, width: 2.0 * reach, height: 2.0 * reach }
+    }
+}
+
+/// A picture in the making: brightness 0 to 255, not yet rounded.
+struct Canvas {
+    light: Vec<f64>,
+}
+
+impl Canvas {
+    /// Lays a shape over an area. `shape` gives, for the middle of a sample, a brightness and how much of it covers.
+    fn lay(&mut self, area: &Area, shape: impl Fn(f64, f64) -> (f64, f64)) {
+        let range = |from: f64, length: f64, end: usize| {
+            (from.max(0.0) as usize).min(end)..((from + length).ceil().max(0.0) as usize).min(end)
+        };
+        for y in range(area.y, area.height, HEIGHT) {
+            for x in range(area.x, area.width, WIDTH) {
+                let (brightness, cover) = shape(x as f64 + 0.5, y as f64 + 0.5);
+                let cell = &mut self.light[y * WIDTH + x];
+                *cell += (brightness - *cell) * cover.clamp(0.0, 1.0);
+            }
+        }
+    }
+
+    /// A disc whose brightness goes from `inner` at its upper left to `outer` at its lower right.
+    fn disc(&mut self, x: f64, y: f64, radius: f64, inner: f64, outer: f64) {
+        self.lay(&Area::around(x, y, radius + 1.0), |px, py| {
+            let slope = ((px - x + py - y) / (2.0 * radius) + 0.5).clamp(0.0, 1.0);
+            (inner + (outer - inner) * slope, radius + 0.5 - (px - x).hypot(py - y))
+        });
+    }
+
+    /// A rectangle with rounded corners, `upper` bright at its upper edge and `lower` at its lower one.
+    fn plate(&mut self, area: &Area, corner: f64, upper: f64, lower: f64) {
+        let (half_width, half_height) = (area.width / 2.0, area.height / 2.0);
+        self.lay(area, |px, py| {
+            let dx = ((px - area.x - half_width).abs() - half_width + corner).max(0.0);
+            let dy = ((py - area.y - half_height).abs() - half_height + corner).max(0.0);
+            let slope = (py - area.y) / area.height;
+            (upper + (lower - upper) * slope, corner + 0.5 - dx.hypot(dy))
+        });
+    }
+
+    /// A straight stroke, from `from` to `to` on a ray out of a middle; the angle is clockwise from straight up.
+    fn ray(&mut self, middle: (f64, f64), angle: f64, from: f64, to: f64, half: f64, brightness: f64) {
+        let (sine, cosine) = angle.sin_cos();
+        self.lay(&Area::around(middle.0, middle.1, to + 2.0), |px, py| {
+            let (dx, dy) = (px - middle.0, py - middle.1);
+            let along = dx * sine - dy * cosine;
+            let across = dx * cosine + dy * sine;
+            let outside = (from - along).max(along - to).max(0.0);
+            (brightness, half + 0.5 - across.hypot(outside))
+        });
+    }
+
+    /// Text, its upper left corner at x and y, each dot of the font `scale` samples wide.
+    fn text(&mut self, x: f64, y: f64, scale: f64, brightness: f64, text: &str) {
+        let advance = scale * font::ADVANCE as f64;
+        for (i, character) in text.chars().enumerate() {
+            let left = x + i as f64 * advance;
+            let area = Area { x: left, y, width: advance, height: scale * font::HEIGHT as f64 };
+            self.lay(&area, |px, py| {
+                let column = ((px - left) / scale) as usize;
+                let row = ((py - y) / scale) as usize;
+                (brightness, f64::from(u8::from(font::dot(character, column, row))))
+            });
+        }
+    }
+
+    fn centred(&mut self, x: f64, y: f64, scale: f64, brightness: f64, text: &str) {
+        let width = scale * (font::ADVANCE * text.len()) as f64 - scale;
+        self.text((x - width / 2.0).round(), y, scale, brightness, text);
+    }
+}
+
+/// The plate behind everything: lit from the upper left, brushed in rows, with a little grain.
+fn background() -> Canvas {
+    let mut grain = Grain(1);
+    let mut light = Vec::with_capacity(WIDTH * HEIGHT);
+    for y in 0..HEIGHT {
+        let brush = 5.0 * grain.next();
+        for x in 0..WIDTH {
+            let far = (x as f64 - 180.0).hypot(y as f64 - 90.0);
+            light.push(158.0 - 0.11 * far + brush + 3.0 * grain.next());
+        }
+    }
+    Canvas { light }
+}
+
+/// Numbers from -0.5 to 0.5 that are the same in every run (a linear congruential generator).
+struct Grain(u64);
+
+impl Grain {
+    fn next(&mut self) -> f64 {
+        self.0 = self.0.wrapping_mul(6364136223846793005).wrapping_add(1442695040888963407);
+        (self.0 >> 40) as f64 / (1u64 << 24) as f64 - 0.5
+    }
+}
+
+fn draw_frame(canvas: &mut Canvas) {
+    for (x, y) in [(14.0, 14.0), (626.0, 14.0), (14.0, 466.0), (626.0, 466.0)] {
+        canvas.disc(x, y, 7.0, 205.0, 70.0);
+        canvas.ray((x, y), 0.8, -5.0, 5.0, 1.0, 50.0);
+    }
+    canvas.plate(&Area { x: 34.0, y: 10.0, width: 572.0, height: 42.0 }, 6.0, 62.0, 40.0);
+    canvas.centred(320.0, 21.0, 3.0, 214.0, "PRESS LINE 4 OPERATOR PANEL");
+}
+
+fn draw_window(canvas: &mut Canvas, x: f64, text: &str) {
+    canvas.plate(&Area { x, y: 68.0, width: 256.0, height: 52.0 }, 5.0, 190.0, 120.0);
+    canvas.plate(&Area { x: x + 4.0, y: 72.0, width: 248.0, height: 44.0 }, 3.0, 18.0, 34.0);
+    canvas.centred(x + 128.0, 84.0, 3.0, 238.0, text);
+}
+
+fn lamp_x(i: usize) -> f64 {
+    65.0 + 102.0 * i as f64
+}
+
+fn draw_lamp(canvas: &mut Canvas, x: f64, label: &str, lit: bool) {
+    canvas.disc(x, LAMP_Y, 25.0, 225.0, 60.0);
+    canvas.disc(x, LAMP_Y, 20.0, 40.0, 90.0);
+    let (inner, outer) = if lit { (255.0, 205.0) } else { (92.0, 46.0) };
+    canvas.disc(x, LAMP_Y, 18.0, inner, outer);
+    canvas.disc(x - 6.0, LAMP_Y - 7.0, 4.0, 255.0, if lit { 250.0 } else { 120.0 });
+    canvas.centred(x, LAMP_Y + 34.0, 2.0, 28.0, label);
+}
+
+/// A dial with 11 long and 40 short strokes over 270 degrees.
+fn draw_gauge(canvas: &mut Canvas, x: f64, label: &str, value: f64) {
+    let middle = (x, GAUGE_Y);
+    let angle = |part: f64| (part * 270.0 - 135.0).to_radians();
+    canvas.disc(x, GAUGE_Y, 90.0, 215.0, 52.0);
+    canvas.disc(x, GAUGE_Y, 83.0, 240.0, 204.0);
+    for i in 0..=50 {
+        let (from, half) = if i % 5 == 0 { (62.0, 1.2) } else { (70.0, 0.4) };
+        canvas.ray(middle, angle(f64::from(i) / 50.0), from, 76.0, half, 30.0);
+    }
+    for i in (0..=10).step_by(2) {
+        let (sine, cosine) = angle(f64::from(i) / 10.0).sin_cos();
+        canvas.centred(x + 50.0 * sine, GAUGE_Y - 50.0 * cosine - 3.0, 1.0, 40.0, &i.to_string());
+    }
+    canvas.centred(x, GAUGE_Y + 48.0, 2.0, 40.0, label);
+    canvas.ray(middle, angle(value), -14.0, 66.0, 2.0, 16.0);
+    canvas.disc(x, GAUGE_Y, 8.0, 120.0, 20.0);
+}
+
+fn draw_button(canvas: &mut Canvas, x: f64, label: &str) {
+    canvas.plate(&Area { x, y: 424.0, width: 116.0, height: 40.0 }, 8.0, 60.0, 36.0);
+    canvas.plate(&Area { x: x + 3.0, y: 426.0, width: 110.0, height: 34.0 }, 7.0, 206.0, 150.0);
+    canvas.centred(x + 58.0, 436.0, 2.0, 24.0, label);
+}
+
+/// The panel, with 8 bits a sample.
+pub fn draw() -> Picture {
+    let mut canvas = background();
+    draw_frame(&mut canvas);
+    for (x, text) in WINDOWS {
+        draw_window(&mut canvas, x, text);
+    }
+    for (i, (label, lit)) in LAMPS.into_iter().enumerate() {
+        draw_lamp(&mut canvas, lamp_x(i), label, lit);
+    }
+    for (i, (label, value)) in GAUGES.into_iter().enumerate() {
+        draw_gauge(&mut canvas, 118.0 + 202.0 * i as f64, label, value);
+    }
+    for (i, label) in BUTTONS.into_iter().enumerate() {
+        draw_button(&mut canvas, 50.0 + 141.0 * i as f64, label);
+    }
+    let samples = canvas.light.iter().map(|light| light.round().clamp(0.0, 255.0) as u16).collect();
+    Picture { width: WIDTH, height: HEIGHT, top: 255, samples }
+}
+
+/// The rectangles over part numbers and lamps: x, y, width, height of each in turn.
+pub fn rectangles() -> Vec<u32> {
+    let mut numbers = Vec::new();
+    for (x, _) in WINDOWS {
+        numbers.extend([x as u32 + 8, 79, 240, 31]);
+    }
+    for i in 0..LAMPS.len() {
+        numbers.extend([lamp_x(i) as u32 - 21, LAMP_Y as u32 - 21, 43, 43]);
+    }
+    numbers
+}
+
+#[cfg(test)]
+mod tests {
+    use super::*;
+
+    #[test]
+    fn the_panel_is_a_picture_with_its_rectangles_inside() {
+        let panel = draw();
+        assert_eq!(panel.samples.len(), WIDTH * HEIGHT);
+        assert!(panel.samples.iter().all(|&s| s <= panel.top));
+        for r in rectangles().chunks_exact(4) {
+            assert!((r[0] + r[2]) as usize <= WIDTH && (r[1] + r[3]) as usize <= HEIGHT);
+        }
+    }
+
+    #[test]
+    fn the_panel_is_the_same_in_every_run() {
+        assert_eq!(draw(), draw());
+    }
+}
