@@ -7,5 +7,5 @@ root=$(cd "$(dirname "$0")/../.." && pwd)
 folder=${1:-"$root/target/demo"}
 
 (cd "$root" && rt staticlib interface)
-(cd "$root/host/tool" && CARGO_TARGET_DIR="$root/target/host" cargo build --release --offline --jobs 2)
+(cd "$root/host" && CARGO_TARGET_DIR="$root/target/host" cargo build --release --offline --jobs 2 -p dhiirqobaal)
 "$root/target/host/release/dhiirqobaal" demo "$folder"

@@ -77,6 +77,3 @@ module _ (mask : List ℕ) where
     unfolding count
     classes-count zero h = refl
     classes-count (suc n) h = rw (classes-apart mask n (marks n (omega arith))) (omega (arith, classes-count n (omega arith), one-of (class mask 1 n)))
-
-    pub all-marked : (n : ℕ) → n ≤ length mask → count n (class mask 1) ≡ n → (i : ℕ) → i < n → class mask 0 i ≡ false
-    all-marked n h e = count-none n (class mask 0) (omega (arith, classes-count n h))

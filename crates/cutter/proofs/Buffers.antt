@@ -6,7 +6,8 @@ use native.Mathlib.Omega.{arith}
 use lib.ListN.{length, getD, take, drop, length-append, length-drop, List·getD-append}
 use lib.Seq.{ext-getD, length-take-le, getD-take, getD-drop, getD-append-add, drop-append-le}
 use Rattle.line.proofs.Cells.{by-lt}
-use Rattle.refusal.proofs.Made.{Made}
+use Rattle.transfer.specs.Copied.{Copied}
+use Rattle.transfer.proofs.Copies.{front-cell}
 use Rattle.header.specs.Fields.{bytesOf}
 use Rattle.header.specs.Writing.{Laid}
 use Rattle.header.proofs.Fields.{bytes-length}
@@ -21,10 +22,10 @@ module _ (p l : List ℕ) {m : List ℕ} (n : ℕ) (size : length p ≡ n) (room
       (λ ge. let j = i - n in let d : length p + j ≡ i = omega arith in let e : n + j ≡ i = omega arith in
       g i ge ∙ ap (λ (k : ℕ). getD l k 0) (sym e) ∙ sym (getD-drop n l j 0) ∙ sym (getD-append-add p (drop n l) j 0) ∙ ap (λ (k : ℕ). getD (p ++ drop n l) k 0) d))
 
--- a loop that copied the first n bytes of s
-pub copied : (s l : List ℕ) {m : List ℕ} (n : ℕ) → n ≤ length s → n ≤ length l → Made 0 (λ k. getD s k 0) 0 n l m → m ≡ take n s ++ drop n l
-copied s l n h room made =
-    in-front (take n s) l n (length-take-le n s h) room (made .size) (λ i b. made .on i b (omega arith) ∙ sym (getD-take n s i 0 b)) (made .above)
+-- the first n bytes of s, copied
+pub copied : (s l : List ℕ) {m : List ℕ} (n : ℕ) → n ≤ length s → n ≤ length l → Copied 0 s 0 0 n l m → m ≡ take n s ++ drop n l
+copied s l n h room c =
+    in-front (take n s) l n (length-take-le n s h) room (c .size) (λ i b. front-cell 0 s n c i b ∙ sym (getD-take n s i 0 b)) (λ i b. c .above i (omega arith))
 
 -- a stream that was copied up to c, and its length field set
 pub cut-laid : (l out : List ℕ) {a b : List ℕ} (c : ℕ) → 4 ≤ c → c ≤ length l → c ≤ length out → a ≡ take c l ++ drop c out → Laid 0 (bytesOf 4 (c - 4)) a b → b ≡ cutTo l c ++ drop c out

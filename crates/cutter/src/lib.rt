@@ -1,8 +1,6 @@
 // Cuts codestreams.
 ghost use mathlib.Core.Path.{_≡_};
-ghost use Prim.Native.Nat.{_≤_};
-ghost use lib.ListN.{length, take, drop};
-ghost use mathlib.Core.List.{_++_};
+ghost use lib.ListN.{length};
 ghost use Rattle.refusal.specs.Numbers.{first};
 ghost use Rattle.codestream.specs.Reading.{planeAfter, maskAfter};
 ghost use Rattle.codestream.specs.Cutting.{cutNumbers, streamAfter};
@@ -55,17 +53,7 @@ fn cut_read(stream: &[u8], wanted: usize, whole: bool, mark: usize, out: &mut [u
     if out.len() < wanted {
         return Outcome::TooShort(wanted);
     }
-    copy(stream, out, wanted);
+    transfer::bytes::copy(stream, out, 0, 0, wanted);
     header::put_four(out, 0, wanted - 4);
     Outcome::Done(wanted)
-}
-
-// Copies the first n bytes.
-fn copy(from: &[u8], to: &mut [u8], n: usize)
-    requires { ⌜ (n ≤ length (now from)) × (n ≤ length (now to)) ⌝ }
-    ensures { λ _. ⌜ now (to .exit) ≡ take n (now (from .entry)) ++ drop n (now (to .entry)) ⌝ }
-{
-    for i in 0..n {
-        to[i] = from[i];
-    }
 }

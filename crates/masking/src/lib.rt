@@ -130,15 +130,6 @@ pub fn mask_levels(kernel: Kernel, levels: usize, w: usize, h: usize, marks: &mu
     rows(kernel, marks, &mut a, &mut b, w, w, h, levels);
 }
 
-fn copy(src: &[u8], dst: &mut [u8])
-    requires { ⌜ length (now dst) ≡ length (now src) ⌝ }
-    ensures { λ _. ⌜ now (dst .exit) ≡ now (src .entry) ⌝ }
-{
-    for i in 0..src.len() {
-        dst[i] = src[i];
-    }
-}
-
 // Fills the lent mask of a picture of w by h samples from its region.
 // Refusals, in order: 1, 2, 4, 5, 9. Under a refusal the mask holds what it held.
 pub fn mask(
@@ -170,7 +161,7 @@ pub fn mask(
     if refusal::bad_mark(region) {
         return Answer::Refused(Refusal::Mark);
     }
-    copy(region, mask);
+    transfer::bytes::copy(region, mask, 0, 0, w * h);
     mask_levels(chosen, levels, w, h, mask);
     Answer::Done
 }

@@ -10,7 +10,7 @@ use native.Mathlib.Nat.{add-zero}
 use native.Mathlib.Omega.{arith}
 use borrow.Author.Count.{below-more, below-none}
 use lib.ListN.{length, getD, set, length-set}
-use lib.Seq.{getD-set-same, getD-set-other}
+use lib.Seq.{getD-set-same, getD-set-other, ext-getD}
 use Rattle.transfer.specs.Copied.{Room, Copied}
 
 -- ---- a copy of one cell, and of one after others
@@ -52,3 +52,15 @@ module _ {A : Type 0} {o : A} {x : List A} {from at n : ℕ} {l : List A} where
 
     pub copying-all : n ≤ k → Copied o x from at n l l′
     copying-all h = let e : k ≡ n = omega (arith, p .count) in rw e at (p .so-far)
+
+-- ---- the first n cells
+module _ {A : Type 0} (o : A) (x : List A) (n : ℕ) {l : List A} where
+  pub front-room : n ≤ length x → n ≤ length l → Room x 0 0 n l
+  front-room h g = record { source = λ k b. omega arith; target = λ k b. omega arith }
+
+  pub front-cell : {l′ : List A} → Copied o x 0 0 n l l′ → (i : ℕ) → i < n → getD l′ i o ≡ getD x i o
+  front-cell {l′} c i h = let e : 0 + i ≡ i = omega arith in rw e at (c .on i h)
+
+  -- all of them
+  pub copied-whole : {l′ : List A} → n ≡ length x → length l ≡ length x → Copied o x 0 0 n l l′ → l′ ≡ x
+  copied-whole {l′} e s c = ext-getD o l′ x (c .size ∙ s) (λ i h. front-cell c i (omega (arith, c .size)))

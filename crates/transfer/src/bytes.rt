@@ -5,7 +5,7 @@ ghost use Rattle.grid.specs.Buffer.{InBuffer, Taken, Put};
 ghost use Rattle.transfer.specs.Copied.{Room, Copied};
 
 // Copies n bytes of src, from `from` on, to dst, from `at` on.
-fn copy(src: &[u8], dst: &mut [u8], from: usize, at: usize, n: usize)
+pub fn copy(src: &[u8], dst: &mut [u8], from: usize, at: usize, n: usize)
     requires { ⌜ Room (now src) from at n (now dst) ⌝ }
     ensures { λ _. ⌜ Copied 0 (now (src .entry)) from at n (now (dst .entry)) (now (dst .exit)) ⌝ }
 {

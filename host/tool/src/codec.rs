@@ -1,93 +1,9 @@
-//! The codec, as the static library offers it (host/include/dhiirqobaal.h), behind safe functions.
+//! The codec, as the static library offers it (host/include/dhiirqobaal.h, host/bindings), with buffers of the right sizes.
 //!
 //! The library tests everything it is given, so nothing is tested here a second time: a wrong number goes in, and the
 //! refusal comes out.
 
 use crate::failure::Failure;
-
-mod raw {
-    extern "C" {
-        pub fn dhiirqobaal_region(
-            numbers: *const u32,
-            numbers_len: usize,
-            w: usize,
-            h: usize,
-            region: *mut u8,
-            region_len: usize,
-        ) -> u64;
-        pub fn dhiirqobaal_transform(
-            kernel: usize,
-            levels: usize,
-            depth: usize,
-            w: usize,
-            h: usize,
-            samples: *const u16,
-            samples_len: usize,
-            plane: *mut i32,
-            plane_len: usize,
-        ) -> u64;
-        pub fn dhiirqobaal_undo(
-            kernel: usize,
-            levels: usize,
-            w: usize,
-            h: usize,
-            plane: *const i32,
-            plane_len: usize,
-            undone: *mut i32,
-            undone_len: usize,
-        ) -> u64;
-        pub fn dhiirqobaal_show(
-            depth: usize,
-            w: usize,
-            h: usize,
-            undone: *const i32,
-            undone_len: usize,
-            shown: *mut u16,
-            shown_len: usize,
-        ) -> u64;
-        pub fn dhiirqobaal_write(
-            plane: *const i32,
-            plane_len: usize,
-            numbers: *const u32,
-            numbers_len: usize,
-            kernel: usize,
-            levels: usize,
-            depth: usize,
-            w: usize,
-            h: usize,
-            mask: *mut u8,
-            mask_len: usize,
-            stream: *mut u8,
-            stream_len: usize,
-            results: *mut u64,
-            results_len: usize,
-        ) -> u64;
-        pub fn dhiirqobaal_read(
-            stream: *const u8,
-            stream_len: usize,
-            plane: *mut i32,
-            plane_len: usize,
-            mask: *mut u8,
-            mask_len: usize,
-            results: *mut u64,
-            results_len: usize,
-        ) -> u64;
-        pub fn dhiirqobaal_cut(
-            stream: *const u8,
-            stream_len: usize,
-            wanted: usize,
-            plane: *mut i32,
-            plane_len: usize,
-            mask: *mut u8,
-            mask_len: usize,
-            out: *mut u8,
-            out_len: usize,
-            results: *mut u64,
-            results_len: usize,
-        ) -> u64;
-        pub fn dhiirqobaal_body(stream: *const u8, stream_len: usize, results: *mut u64, results_len: usize) -> u64;
-    }
-}
 
 const MAX_SIDE: usize = 4096;
 const READ_RESULTS: usize = 139;
@@ -165,10 +81,7 @@ fn area(width: usize, height: usize) -> usize {
 /// Which samples the rectangles cover: 1 inside, else 0.
 pub fn region(rectangles: &[u32], width: usize, height: usize) -> Result<Vec<u8>, Failure> {
     let mut region = zeros::<u8>(area(width, height))?;
-    // SAFETY: each pointer comes with the length of its own slice, and the slices do not overlap.
-    let number = unsafe {
-        raw::dhiirqobaal_region(rectangles.as_ptr(), rectangles.len(), width, height, region.as_mut_ptr(), region.len())
-    };
+    let number = bindings::region(rectangles, width, height, &mut region);
     accepted(number, || format!("{} rectangles in {width} by {height} samples", rectangles.len() / 4))?;
     Ok(region)
 }
@@ -176,20 +89,8 @@ pub fn region(rectangles: &[u32], width: usize, height: usize) -> Result<Vec<u8>
 /// The coefficients of a picture.
 pub fn transform(setting: &Setting, samples: &[u16]) -> Result<Vec<i32>, Failure> {
     let mut plane = zeros::<i32>(area(setting.width, setting.height))?;
-    // SAFETY: as in `region`.
-    let number = unsafe {
-        raw::dhiirqobaal_transform(
-            setting.kernel,
-            setting.levels,
-            setting.depth,
-            setting.width,
-            setting.height,
-            samples.as_ptr(),
-            samples.len(),
-            plane.as_mut_ptr(),
-            plane.len(),
-        )
-    };
+    let Setting { kernel, levels, depth, width, height, .. } = *setting;
+    let number = bindings::transform(kernel, levels, depth, width, height, samples, &mut plane);
     accepted(number, || setting.words())?;
     Ok(plane)
 }
@@ -208,26 +109,9 @@ pub fn write(setting: &Setting, plane: &[i32]) -> Result<Written, Failure> {
 
 fn write_once(setting: &Setting, plane: &[i32], mask: &mut [u8], stream: &mut [u8]) -> (u64, [u64; 3]) {
     let mut results = [0u64; 3];
-    // SAFETY: as in `region`.
-    let number = unsafe {
-        raw::dhiirqobaal_write(
-            plane.as_ptr(),
-            plane.len(),
-            setting.rectangles.as_ptr(),
-            setting.rectangles.len(),
-            setting.kernel,
-            setting.levels,
-            setting.depth,
-            setting.width,
-            setting.height,
-            mask.as_mut_ptr(),
-            mask.len(),
-            stream.as_mut_ptr(),
-            stream.len(),
-            results.as_mut_ptr(),
-            results.len(),
-        )
-    };
+    let Setting { kernel, levels, depth, width, height, .. } = *setting;
+    let rectangles = &setting.rectangles;
+    let number = bindings::write(plane, rectangles, kernel, levels, depth, width, height, mask, stream, &mut results);
     (number, results)
 }
 
@@ -245,19 +129,7 @@ pub fn read(stream: &[u8], name: &str) -> Result<Reading, Failure> {
     let mut plane = zeros::<i32>(count)?;
     let mut mask = zeros::<u8>(count)?;
     let mut results = [0u64; READ_RESULTS];
-    // SAFETY: as in `region`.
-    let number = unsafe {
-        raw::dhiirqobaal_read(
-            stream.as_ptr(),
-            stream.len(),
-            plane.as_mut_ptr(),
-            plane.len(),
-            mask.as_mut_ptr(),
-            mask.len(),
-            results.as_mut_ptr(),
-            results.len(),
-        )
-    };
+    let number = bindings::read(stream, &mut plane, &mut mask, &mut results);
     accepted(number, || format!("{name}, {} bytes", stream.len()))?;
     Ok(reading(&results, plane))
 }
@@ -289,37 +161,15 @@ pub fn show(reading: &Reading) -> Result<Vec<u16>, Failure> {
     let setting = &reading.setting;
     let undone = undo(setting, &reading.plane)?;
     let mut shown = zeros::<u16>(undone.len())?;
-    // SAFETY: as in `region`.
-    let number = unsafe {
-        raw::dhiirqobaal_show(
-            setting.depth,
-            setting.width,
-            setting.height,
-            undone.as_ptr(),
-            undone.len(),
-            shown.as_mut_ptr(),
-            shown.len(),
-        )
-    };
+    let number = bindings::show(setting.depth, setting.width, setting.height, &undone, &mut shown);
     accepted(number, || setting.words())?;
     Ok(shown)
 }
 
 fn undo(setting: &Setting, plane: &[i32]) -> Result<Vec<i32>, Failure> {
     let mut undone = zeros::<i32>(plane.len())?;
-    // SAFETY: as in `region`.
-    let number = unsafe {
-        raw::dhiirqobaal_undo(
-            setting.kernel,
-            setting.levels,
-            setting.width,
-            setting.height,
-            plane.as_ptr(),
-            plane.len(),
-            undone.as_mut_ptr(),
-            undone.len(),
-        )
-    };
+    let Setting { kernel, levels, width, height, .. } = *setting;
+    let number = bindings::undo(kernel, levels, width, height, plane, &mut undone);
     accepted(number, || setting.words())?;
     Ok(undone)
 }
@@ -332,22 +182,7 @@ pub fn cut(stream: &[u8], wanted: usize, name: &str) -> Result<Vec<u8>, Failure>
     // A wanted length above the stream's is refused (15) before the room is asked for (11).
     let mut out = zeros::<u8>(wanted.min(stream.len()))?;
     let mut results = [0u64; 1];
-    // SAFETY: as in `region`.
-    let number = unsafe {
-        raw::dhiirqobaal_cut(
-            stream.as_ptr(),
-            stream.len(),
-            wanted,
-            plane.as_mut_ptr(),
-            plane.len(),
-            mask.as_mut_ptr(),
-            mask.len(),
-            out.as_mut_ptr(),
-            out.len(),
-            results.as_mut_ptr(),
-            results.len(),
-        )
-    };
+    let number = bindings::cut(stream, wanted, &mut plane, &mut mask, &mut out, &mut results);
     accepted(number, || format!("{name}, {} bytes, wanted {wanted}", stream.len()))?;
     Ok(out)
 }
@@ -355,8 +190,7 @@ pub fn cut(stream: &[u8], wanted: usize, name: &str) -> Result<Vec<u8>, Failure>
 /// Where the body begins in a stream, and its length.
 pub fn body(stream: &[u8], name: &str) -> Result<(usize, usize), Failure> {
     let mut results = [0u64; 2];
-    // SAFETY: as in `region`.
-    let number = unsafe { raw::dhiirqobaal_body(stream.as_ptr(), stream.len(), results.as_mut_ptr(), results.len()) };
+    let number = bindings::body(stream, &mut results);
     accepted(number, || format!("{name}, {} bytes", stream.len()))?;
     Ok((results[0] as usize, results[1] as usize))
 }
