@@ -5,7 +5,7 @@
 //! Rust has one. Every function returns the refusal's number, 0 if none.
 
 /// The functions as the library exports them.
-pub mod raw {
+mod raw {
     extern "C" {
         pub fn dhiirqobaal_region(
             numbers: *const u32,

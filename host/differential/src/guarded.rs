@@ -1,6 +1,8 @@
 //! A buffer lent to the library inside a larger one, whose guard elements on
 //! either side must stay as they are.
 
+use crate::call::Facts;
+
 const GUARDS: usize = 32;
 
 /// The element types of the interface, each with a pattern for the guards and
@@ -34,6 +36,84 @@ pub fn held<T: Element>(len: usize) -> Vec<T> {
     vec![T::HELD; len]
 }
 
+/// An argument of a call: a number, or a buffer.
+pub trait Argument {
+    type Lent<'a>: Lent
+    where
+        Self: 'a;
+    type Plain<'a>
+    where
+        Self: 'a;
+
+    /// As it is given to the library, a buffer within guards.
+    fn lend(&mut self, name: &'static str) -> Self::Lent<'_>;
+
+    /// As it is given to the reference.
+    fn plain(&mut self) -> Self::Plain<'_>;
+
+    fn tell(&self, name: &'static str, facts: &mut Facts);
+}
+
+/// What was lent for a call.
+pub trait Lent {
+    type Part<'b>
+    where
+        Self: 'b;
+
+    /// What the call is given.
+    fn part(&mut self) -> Self::Part<'_>;
+
+    /// Gives the buffer's content back, and its name if a guard element was
+    /// altered.
+    fn end(self) -> Option<&'static str>;
+}
+
+impl Argument for usize {
+    type Lent<'a> = usize;
+    type Plain<'a> = usize;
+
+    fn lend(&mut self, _: &'static str) -> usize {
+        *self
+    }
+
+    fn plain(&mut self) -> usize {
+        *self
+    }
+
+    fn tell(&self, name: &'static str, facts: &mut Facts) {
+        facts.number(name, *self);
+    }
+}
+
+impl Lent for usize {
+    type Part<'b> = usize;
+
+    fn part(&mut self) -> usize {
+        *self
+    }
+
+    fn end(self) -> Option<&'static str> {
+        None
+    }
+}
+
+impl<T: Element + 'static> Argument for Vec<T> {
+    type Lent<'a> = Guarded<'a, T>;
+    type Plain<'a> = &'a mut [T];
+
+    fn lend(&mut self, name: &'static str) -> Guarded<'_, T> {
+        Guarded::new(name, self)
+    }
+
+    fn plain(&mut self) -> &mut [T] {
+        self
+    }
+
+    fn tell(&self, name: &'static str, facts: &mut Facts) {
+        facts.buffer(name, self);
+    }
+}
+
 pub struct Guarded<'a, T> {
     name: &'static str,
     content: &'a mut [T],
@@ -41,7 +121,7 @@ pub struct Guarded<'a, T> {
 }
 
 impl<'a, T: Element> Guarded<'a, T> {
-    pub fn new(name: &'static str, content: &'a mut [T]) -> Guarded<'a, T> {
+    fn new(name: &'static str, content: &'a mut [T]) -> Guarded<'a, T> {
         let mut cells = Vec::with_capacity(content.len() + 2 * GUARDS);
         cells.resize(GUARDS, T::GUARD);
         cells.extend_from_slice(content);
@@ -52,18 +132,19 @@ impl<'a, T: Element> Guarded<'a, T> {
             cells,
         }
     }
+}
 
-    pub fn len(&self) -> usize {
-        self.content.len()
+impl<'a, T: Element> Lent for Guarded<'a, T> {
+    type Part<'b>
+        = &'b mut [T]
+    where
+        Self: 'b;
+
+    fn part(&mut self) -> &mut [T] {
+        &mut self.cells[GUARDS..GUARDS + self.content.len()]
     }
 
-    pub fn pointer(&mut self) -> *mut T {
-        self.cells[GUARDS..].as_mut_ptr()
-    }
-
-    /// Copies the content back; gives the buffer's name if a guard element was
-    /// altered.
-    pub fn end(self) -> Option<&'static str> {
+    fn end(self) -> Option<&'static str> {
         let (before, rest) = self.cells.split_at(GUARDS);
         let (content, behind) = rest.split_at(self.content.len());
         self.content.copy_from_slice(content);
