@@ -3,8 +3,10 @@
 --   cutTo l c            == the stream l cut to c bytes: its first c bytes with c − 4 in the length field
 --   badCut l c           == 15: wanted length below the region mark or above the stream, or marked part not whole
 --   cutTests l n m c o   == the refusals of the call: those of the reader, then 15, 11; n, m and o are the lengths of plane, mask and stream buffer
---   Numbers, cutNumbers  == the call's result numbers: refusal, length (under 11 the needed one)
---   streamAfter          == what the stream buffer then holds; plane and mask hold the reader's answer
+--   lengthTests l c o    == those behind the reader's
+--   Numbers              == the call's result numbers: refusal, length (under 11 the needed one)
+--   numbersUnder, streamUnder == the result numbers and the stream buffer, where f is the number of the first test that holds
+--   cutNumbers, streamAfter == those of the call; plane and mask hold the reader's answer
 --
 -- Assumes nothing: these are definitions.
 use mathlib.Core.Bool.{Bool, not, _||_}
@@ -13,7 +15,7 @@ use Prim.Native.Nat.{ℕ, _-_}
 use lib.Dec.{ltb, eqb}
 use lib.ListN.{length, take, drop}
 use Rattle.line.specs.Cells.{choose}
-use Rattle.refusal.specs.Numbers.{Test, test, first, accepted}
+use Rattle.refusal.specs.Numbers.{Test, test, first}
 use Rattle.header.specs.Fields.{bytesOf}
 use Rattle.codestream.specs.Reading.{answerOf, readTests}
 
@@ -23,18 +25,25 @@ cutTo l c = bytesOf 4 (c - 4) ++ drop 4 (take c l)
 abbrev pub badCut : List ℕ → ℕ → Bool
 badCut l c = not (answerOf l .whole) || ltb c (answerOf l .regionMark) || ltb (length l) c
 
+abbrev pub lengthTests : List ℕ → ℕ → ℕ → List Test
+lengthTests l c o = test (badCut l c) 15 ∷ test (ltb o c) 11 ∷ []
+
 abbrev pub cutTests : List ℕ → ℕ → ℕ → ℕ → ℕ → List Test
-cutTests l n m c o = readTests l n m ++ (test (badCut l c) 15 ∷ test (ltb o c) 11 ∷ [])
+cutTests l n m c o = readTests l n m ++ lengthTests l c o
 
 pub record Numbers : Type 0 where
   pub refusal : ℕ
   pub length : ℕ
 
-abbrev pub cutNumbers : List ℕ → ℕ → ℕ → ℕ → ℕ → Numbers
-cutNumbers l n m c o =
-    let f = first (cutTests l n m c o) in
-    record { refusal = f; length = choose (eqb f 0 || eqb f 11) c 0 }
+abbrev pub numbersUnder : ℕ → ℕ → Numbers
+numbersUnder f c = record { refusal = f; length = choose (eqb f 0 || eqb f 11) c 0 }
 
 -- bytes past the wanted length keep what they held
+abbrev pub streamUnder : ℕ → List ℕ → ℕ → List ℕ → List ℕ
+streamUnder f l c out = choose (eqb f 0) (cutTo l c ++ drop c out) out
+
+abbrev pub cutNumbers : List ℕ → ℕ → ℕ → ℕ → ℕ → Numbers
+cutNumbers l n m c o = numbersUnder (first (cutTests l n m c o)) c
+
 abbrev pub streamAfter : List ℕ → ℕ → ℕ → ℕ → List ℕ → List ℕ
-streamAfter l n m c out = choose (accepted (cutTests l n m c (length out))) (cutTo l c ++ drop c out) out
+streamAfter l n m c out = streamUnder (first (cutTests l n m c (length out))) l c out

@@ -17,12 +17,12 @@ use Rattle.refusal.proofs.Ordered.{none, here, next, numbered, first-append, pa
 use Rattle.header.specs.Header.{frontLength}
 use Rattle.codestream.specs.Reading.{answerOf, readTests, readNumbers, planeAfter, maskAfter}
 use Rattle.codestream.specs.Reading as reading
-use Rattle.codestream.specs.Cutting.{cutTo, badCut, cutTests, cutNumbers, streamAfter}
+use Rattle.codestream.specs.Cutting.{cutTo, badCut, lengthTests, cutTests, cutNumbers, streamAfter}
 use Rattle.decoder.specs.Answers as decoder
 use Rattle.decoder.specs.declared.Body.{Body}
 use Rattle.decoder.specs.declared.Outcome.{Outcome as Outcome′}
 use Rattle.decoder.specs.declared.Outcome.the-variants.{Done as Done′, Refused as Refused′}
-use Rattle.cutter.specs.Answers.{numbersOf, lengthTests, Read, Answered}
+use Rattle.cutter.specs.Answers.{numbersOf, Read, Answered}
 use Rattle.cutter.specs.declared.Outcome.{Outcome}
 use Rattle.cutter.specs.declared.Outcome.the-variants.{Done, TooShort, Refused}
 

@@ -3,8 +3,8 @@ ghost use mathlib.Core.Path.{_≡_};
 ghost use lib.ListN.{length};
 ghost use Rattle.refusal.specs.Numbers.{first};
 ghost use Rattle.codestream.specs.Reading.{planeAfter, maskAfter};
-ghost use Rattle.codestream.specs.Cutting.{cutNumbers, streamAfter};
-ghost use Rattle.cutter.specs.Answers.{numbersOf, lengthTests, Read, Answered};
+ghost use Rattle.codestream.specs.Cutting.{lengthTests, cutNumbers, streamAfter};
+ghost use Rattle.cutter.specs.Answers.{numbersOf, Read, Answered};
 use refusal::Refusal;
 
 // What `cut` answers. `TooShort` is refusal 11, with the needed length.

@@ -27,8 +27,8 @@ use Rattle.region.specs.Drawing.{Filled}
 use Rattle.shot.specs.Shots.{marks}
 use Rattle.shot.proofs.Masks.{mask-length, mask-binary}
 use Rattle.codestream.specs.Stream.{area, markedPasses, unmarkedPasses}
-use Rattle.codestream.specs.Reading.{answerOf, planeOf}
-use Rattle.decoder.specs.Answers.{Masked, Found, fillingTest}
+use Rattle.codestream.specs.Reading.{answerOf, planeOf, fillingTest}
+use Rattle.decoder.specs.Answers.{Masked, Found}
 use Rattle.decoder.specs.declared.Outcome.the-variants.{Done, Refused}
 
 -- the length field bounds the body

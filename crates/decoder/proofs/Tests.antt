@@ -13,8 +13,7 @@ use Rattle.refusal.proofs.Ordered.{here, next, is, isnt, numbered, first-append
 use Rattle.header.specs.Header.{number, badHeader, badVersion}
 use Rattle.header.specs.Fields.{numbers, shotOf}
 use Rattle.shot.specs.Shots.{settingTests}
-use Rattle.codestream.specs.Reading.{badPlanes, readTests}
-use Rattle.decoder.specs.Answers.{otherTests, fillingTest}
+use Rattle.codestream.specs.Reading.{badPlanes, otherTests, fillingTest, readTests}
 use Rattle.decoder.proofs.Arrays.{numbers-length}
 
 -- the numbers of a header are four a rectangle

@@ -4,34 +4,27 @@
 --   headerFor s          == the header of the shot s, with its rectangles' numbers in an array
 --   refusedWith r        == a refusal, with a header of zeros
 --   rectangleArray l k   == the numbers of k rectangles of the stream l, and 0 behind them
---   otherTests l n m     == the refusals behind those of the setting: 7, 8, 14, 5, 16
---   fillingTest l        == the last of them
 --   Set, Masked          == what is known of a call once the setting is taken, and once the mask is drawn
---   heldAfter o f ..     == what a buffer holds behind the test of number f: what was read, or zeros o, or what it held
---   numbersAfter f l     == the result numbers behind that test
 --   Found f ..           == the answer of the body, and what the buffers then hold, where f is the number of the first test that holds, 0 if none does
 --   Answered f ..        == the same of the answer with its header
 --
 -- Assumes nothing: these are definitions.
 use mathlib.Core.Path.{_≡_}
 use mathlib.Core.Bool.{false}
-use mathlib.Core.List.{List, [], _∷_, _++_}
+use mathlib.Core.List.{List}
 use Prim.Native.Nat.{ℕ, _*_, _/_}
-use lib.Dec.{eqb}
 use lib.IntN.{ℤ, pos}
-use lib.ListN.{length, getD, replicate}
+use lib.ListN.{length, getD}
 use Rattle.kernel.specs.declared.Kernel.{Kernel}
 use Rattle.kernel.specs.Kernels.{theKernel}
-use Rattle.line.specs.Cells.{choose, listed}
-use Rattle.bitplane.specs.Reader.{badFilling}
-use Rattle.refusal.specs.Numbers.{Test, test, refusalNumber, first}
-use Rattle.refusal.specs.Tests.{badLength}
+use Rattle.line.specs.Cells.{listed}
+use Rattle.refusal.specs.Numbers.{test, refusalNumber, first}
 use Rattle.refusal.specs.declared.Refusal.{Refusal}
-use Rattle.header.specs.Header.{badHeader, badVersion, bodyOf}
+use Rattle.header.specs.Header.{badHeader, badVersion}
 use Rattle.header.specs.Fields.{Shot, numbers, shotOf}
-use Rattle.shot.specs.Shots.{shotMask, marks, settingTests, rectangleTests}
+use Rattle.shot.specs.Shots.{shotMask, marks, settingTests}
 use Rattle.codestream.specs.Stream.{area}
-use Rattle.codestream.specs.Reading.{answerOf, planeOf, badPlanes, Numbers, noShot}
+use Rattle.codestream.specs.Reading.{planeOf, badPlanes, Numbers, numbersUnder, noShot, shotUnder, heldUnder}
 use Rattle.decoder.specs.declared.Header.{Header}
 use Rattle.decoder.specs.declared.Outcome.{Outcome}
 use Rattle.decoder.specs.declared.Outcome.the-variants.{Done, Refused}
@@ -59,15 +52,6 @@ refusedWith r = record { outcome = Refused r; header = headerFor noShot }
 abbrev pub rectangleArray : List ℕ → ℕ → List ℕ
 rectangleArray l k = listed 128 (λ i. getD (numbers (4 * k) l 14) i 0)
 
-abbrev pub fillingTest : List ℕ → List Test
-fillingTest l = test (badFilling (bodyOf l) (answerOf l .end)) 16 ∷ []
-
-abbrev pub otherTests : List ℕ → ℕ → ℕ → List Test
-otherTests l n m =
-    let s = shotOf l in
-    rectangleTests (s .width) (s .height) (s .rectangles)
-    ++ (test (badPlanes (s .planes)) 14 ∷ test (badLength (s .width) (s .height) n) 5 ∷ test (badLength (s .width) (s .height) m) 5 ∷ fillingTest l)
-
 pub record Set (l : List ℕ) (chosen : Kernel) (k J D W H : ℕ) : Type 0 where
   pub header : badHeader l ≡ false
   pub version : badVersion l ≡ false
@@ -87,25 +71,13 @@ pub record Masked (l : List ℕ) (plane : List ℤ) (mask : List ℕ) (T : ℕ) 
   pub full : length plane ≡ area (shotOf l)
   pub mask-is : mask ≡ shotMask (shotOf l)
 
-abbrev pub heldAfter : {A : Type 0} → A → ℕ → List A → List A → List A
-heldAfter o f done held = choose (eqb f 0) done (choose (eqb f 16) (replicate (length held) o) held)
-
-abbrev pub numbersAfter : ℕ → List ℕ → Numbers
-numbersAfter f l = record {
-  refusal = f;
-  marks = choose (eqb f 0) (marks (shotOf l)) 0;
-  whole = choose (eqb f 0) (answerOf l .whole) false;
-  regionMark = choose (eqb f 0) (answerOf l .regionMark) 0;
-  q = choose (eqb f 0) (answerOf l .q) 0;
-}
-
 pub record Found (f : ℕ) (l : List ℕ) (plane plane′ : List ℤ) (mask mask′ : List ℕ) (r : Outcome) : Type 0 where
-  pub numbers : numbersOf r ≡ numbersAfter f l
-  pub plane-held : plane′ ≡ heldAfter (pos 0) f (planeOf l) plane
-  pub mask-held : mask′ ≡ heldAfter 0 f (shotMask (shotOf l)) mask
+  pub numbers : numbersOf r ≡ numbersUnder f l
+  pub plane-held : plane′ ≡ heldUnder (pos 0) f (planeOf l) plane
+  pub mask-held : mask′ ≡ heldUnder 0 f (shotMask (shotOf l)) mask
 
 pub record Answered (f : ℕ) (l : List ℕ) (plane plane′ : List ℤ) (mask mask′ : List ℕ) (r : Reading) : Type 0 where
-  pub numbers : numbersOf (r .outcome) ≡ numbersAfter f l
-  pub header : r .header ≡ headerFor (choose (eqb f 0) (shotOf l) noShot)
-  pub plane-held : plane′ ≡ heldAfter (pos 0) f (planeOf l) plane
-  pub mask-held : mask′ ≡ heldAfter 0 f (shotMask (shotOf l)) mask
+  pub numbers : numbersOf (r .outcome) ≡ numbersUnder f l
+  pub header : r .header ≡ headerFor (shotUnder f l)
+  pub plane-held : plane′ ≡ heldUnder (pos 0) f (planeOf l) plane
+  pub mask-held : mask′ ≡ heldUnder 0 f (shotMask (shotOf l)) mask

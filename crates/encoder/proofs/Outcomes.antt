@@ -22,10 +22,10 @@ use Rattle.shot.specs.declared.Setting.the-variants.{Taken}
 use Rattle.shot.specs.declared.Setting.the-variants as set
 use Rattle.shot.proofs.Settings.{setting-most}
 use Rattle.codestream.specs.Stream.{area, totalLength, regionMark, stream}
-use Rattle.codestream.specs.Writing.{writeTests, writeNumbers, maskAfter, streamAfter}
+use Rattle.codestream.specs.Writing.{otherTests, roomTest, writeTests, writeNumbers, maskAfter, streamAfter}
 use Rattle.encoder.specs.declared.Outcome.{Outcome}
 use Rattle.encoder.specs.declared.Outcome.the-variants.{Written, TooShort, Refused}
-use Rattle.encoder.specs.Answers.{numbersOf, roomTest, otherTests, Answered}
+use Rattle.encoder.specs.Answers.{numbersOf, Answered}
 
 module _ {s : Shot} {l : List ℤ} {mask out : List ℕ} where
   -- a refusal that is not 11 leaves both buffers alone

@@ -13,8 +13,7 @@ use Rattle.refusal.specs.declared.Refusal.the-variants.{Numbers, Rectangle, Pla
 use Rattle.refusal.proofs.Passed.{multiples, area}
 use Rattle.header.specs.Fields.{shotOf}
 use Rattle.header.proofs.Parts.{good-long, good-front}
-use Rattle.codestream.specs.Reading.{badPlanes}
-use Rattle.decoder.specs.Answers.{otherTests, fillingTest}
+use Rattle.codestream.specs.Reading.{badPlanes, otherTests, fillingTest}
 use Rattle.decoder.proofs.Tests.{full-length, other-length, many, outside, deep, plane-other, mask-other, filling-only, setting-size}
 use Rattle.decoder.proofs.Answered.{refused-answer, body-refused, body-done, header-is, front-length, rectangles-tested, mask-drawn}
 use Rattle.decoder.proofs.read_set.Statement.{statement}
