@@ -11,7 +11,8 @@ use lib.ListN.{length, length-append}
 use borrow.Author.Tests.{lt-ltb}
 use Rattle.line.specs.Cells.{choose, count}
 use Rattle.bitplane.specs.Bits.{sign}
-use Rattle.bitplane.specs.Body.{onePlane, planes, signAfter, code, passBits, body, nonzero}
+use Rattle.bitplane.specs.Inner.{nonzero}
+use Rattle.bitplane.specs.Body.{onePlane, planes, signAfter, code, passBits, body}
 use Rattle.bitplane.proofs.Passes.{halved}
 
 -- the coefficients of a class that have a 1 at plane t or above

@@ -1,4 +1,4 @@
--- Bits of numbers and of bytes (document 01, "Truncation and the stream").
+-- Bits of numbers and of bytes (docs/FORMAT.md, "Body" and "Truncation").
 --
 --   bitOf t m      == bit t of m
 --   bitAt l p      == bit p of the bytes l, highest bit of a byte first; 0 past their end

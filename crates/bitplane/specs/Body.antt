@@ -1,21 +1,20 @@
--- The body of a codestream as it is written (document 01, "Truncation and the stream").
+-- The body of a codestream as it is written (docs/FORMAT.md, "Body").
 --
 --   Pass           == one bit plane of the coefficients of one class
 --   Order          == the passes of a body, first to last
 --   class mask c   == the coefficients, row by row, whose mask byte is c: 1 the marked, 0 the unmarked
 --   onePlane on t  == plane t of a class
 --   planes on T    == planes T − 1 down to 0 of a class
+--   signAfter h s  == the sign bit s where a first 1 was sent: the magnitude down to that plane, h, is 1
 --   code t z       == what a coefficient gives to plane t: that bit of its magnitude and, after its first 1, its sign bit
 --   passBits x Z n == the bits of a pass over the first n coefficients of Z
 --   body xs Z n    == the bits of a body, before the last byte is filled
---   nonzero on Z   == the coefficients of a class that are not 0: each has a sign bit
---   PlaneCount     == T: the number of binary digits of the largest magnitude, 0 where all are 0
 --
 -- Assumes nothing: these are definitions.
-use mathlib.Core.Bool.{Bool, false}
+use mathlib.Core.Bool.{Bool}
 use mathlib.Core.List.{List, [], _∷_, _++_}
-use Prim.Native.Nat.{ℕ, zero, suc, _-_, _/_, _^_, _<_, _≤_}
-use lib.Dec.{eqb, ltb}
+use Prim.Native.Nat.{ℕ, zero, suc, _/_, _^_}
+use lib.Dec.{eqb}
 use lib.IntN.{ℤ, natAbs}
 use lib.ListN.{getD}
 use Rattle.line.specs.Cells.{choose}
@@ -55,10 +54,3 @@ passBits x Z (suc n) = passBits x Z n ++ choose (x .on n) (code (x .plane) (Z n)
 unfoldable pub body : Order → (ℕ → ℤ) → ℕ → List ℕ
 body [] Z n = []
 body (x ∷ xs) Z n = passBits x Z n ++ body xs Z n
-
-abbrev pub nonzero : (ℕ → Bool) → (ℕ → ℤ) → ℕ → Bool
-nonzero on Z i = choose (on i) (ltb 0 (natAbs (Z i))) false
-
-pub record PlaneCount (Z : ℕ → ℤ) (T : ℕ) : Type 0 where
-  pub each : (i : ℕ) → natAbs (Z i) < 2 ^ T
-  pub least : 0 < T → (i : ℕ) × (2 ^ (T - 1) ≤ natAbs (Z i))

@@ -1,16 +1,19 @@
--- The body of a codestream as it is read, where it may be cut (document 01, "Truncation and the stream").
+-- The body of a codestream as it is read, where it may be cut (docs/FORMAT.md, "Reading").
 --
---   Received          == bits, of which the first `size` were received; the others are 0
---   received l        == the bits of the bytes l
---   Reading           == the coefficients so far and the place of the next bit
---   used v b          == how many bits a coefficient takes that is v so far, where its next bit is b: a first 1 has a sign behind it
---   grown t a v b s   == v after bit b of plane t; s is the sign bit if b is its first 1, which counts as 0 unless the sign arrived (a)
---   place h x r i     == where the bits of coefficient i begin in pass x; it runs on past the end of what was received
---   pass h n x r      == r after pass x over n coefficients
---   read h n xs r     == r after the passes of an order
---   missing h n xs r  == how many of these passes were not wholly received
---   badFilling l p    == 16: after a complete body, a non-zero filling bit or a further byte; p is where the body ends
---   Answer, answer    == what the reader finds in a body, and where the body ends; `front` is the length before the body
+--   Received               == bits, of which the first `size` were received; the others are 0
+--   received l             == the bits of the bytes l
+--   Reading                == the coefficients so far and the place of the next bit
+--   start                  == before the first bit: every coefficient is 0
+--   used v b               == how many bits a coefficient takes that is v so far, where its next bit is b: a first 1 has a sign behind it
+--   grown t a v b s        == v after bit b of plane t; s is the sign bit if b is its first 1, which counts as 0 unless the sign arrived (a)
+--   taken h t v p          == v after what plane t gives it from place p on
+--   place h x r i          == where the bits of coefficient i begin in pass x; it runs on past the end of what was received
+--   pass h n x r           == r after pass x over n coefficients
+--   read h n xs r          == r after the passes of an order
+--   missing h n xs r       == how many of these passes were not wholly received
+--   badFilling l p         == 16: after a complete body, a non-zero filling bit or a further byte; p is where the body ends
+--   Answer                 == what the reader finds in a body, and where the body ends
+--   answer front h n xs ys == that, of the marked passes xs and the unmarked ys behind them; `front` is the length before the body
 --
 -- Assumes nothing: these are definitions.
 use mathlib.Core.Bool.{Bool, not, _&&_, _||_}

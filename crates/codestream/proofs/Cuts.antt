@@ -1,9 +1,8 @@
 -- A stream cut to c bytes: its header is that of the uncut one but for the length field, its body is the front of the uncut one's, and the cutter
 -- takes c exactly from the region mark of a stream whose marked part is whole up to its length.
 --
---   Bytes l              == each number of l is a byte
---   Headed l c           == the header and the body's part of the stream l cut to c bytes
---   Cuttable l n m c     == the reader accepts l, its marked part is whole, and c is from its region mark to its length
+--   Headed l c       == the header and the body's part of the stream l cut to c bytes
+--   Cuttable l n m c == the reader accepts l, its marked part is whole, and c is from its region mark to its length
 --
 -- Assumes nothing.
 use mathlib.Core.Path.{_≡_, refl, sym, ap, ap₂, _∙_}
@@ -24,10 +23,7 @@ use Rattle.header.specs.Fields.{bytesOf, numbers, shotOf}
 use Rattle.header.proofs.Fields.{bytes-length, number-at}
 use Rattle.header.proofs.Parts.{else-length, good-long, good-front}
 use Rattle.codestream.specs.Reading.{answerOf, readTests}
-use Rattle.codestream.specs.Cutting.{cutTo, badCut, cutTests}
-
-abbrev pub Bytes : List ℕ → Type 0
-Bytes l = (i : ℕ) → getD l i 0 < 256
+use Rattle.codestream.specs.Cutting.{cutTo, badCut, cutTests, Bytes}
 
 number-small : (n : ℕ) (l : List ℕ) (at : ℕ) → Bytes l → number n l at < 256 ^ n
 unfolding number

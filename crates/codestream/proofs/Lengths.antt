@@ -9,9 +9,10 @@ use lib.IntN.{ℤ, natAbs}
 use lib.ListN.{length, getD}
 use Rattle.kernel.specs.Kernels.{theKernel}
 use Rattle.line.specs.Cells.{count, cell}
-use Rattle.bitplane.specs.Body.{class, nonzero}
+use Rattle.bitplane.specs.Inner.{nonzero}
+use Rattle.bitplane.specs.Body.{class}
 use Rattle.bitplane.proofs.Lengths.{class-length}
-use Rattle.scan.specs.Scan.{signCount}
+use Rattle.scan.specs.Inner.{signCount}
 use Rattle.scan.proofs.Counting.{count-le}
 use Rattle.scan.proofs.BodyLengths.{whole-length}
 use Rattle.header.specs.Fields.{Shot}

@@ -1,15 +1,11 @@
--- Reading a whole stream returns the plane that was written.
---
---   ReadBack x s l p b == the reader answers of the stream x, with a plane buffer p and a mask buffer b, that it is that of the shot s and the plane l
---
--- Assumes nothing.
+-- Reading a whole stream returns the plane that was written. Assumes nothing.
 use mathlib.Core.Path.{_≡_, refl, sym, ap, ap₂, _∙_, subst}
 use mathlib.Core.Bool.{Bool, true, false}
 use mathlib.Core.List.{List, [], _∷_, _++_}
 use Prim.Native.Nat.{ℕ}
-use borrow.Author.Tests.{eq-eqb, eqb-true, le-ltb}
 use lib.IntN.{ℤ}
 use lib.ListN.{length}
+use borrow.Author.Tests.{eq-eqb, eqb-true, le-ltb}
 use Rattle.line.specs.Cells.{choose, listed}
 use Rattle.bitplane.specs.Reader.{received, Answer, answer, badFilling}
 use Rattle.refusal.specs.Numbers.{Test, test, first, accepted}
@@ -20,7 +16,7 @@ use Rattle.header.specs.Fields.{Shot, shotOf}
 use Rattle.shot.specs.Shots.{shotMask, marks, settingTests, rectangleTests}
 use Rattle.codestream.specs.Stream.{area, front, markedPasses, unmarkedPasses, bodyBits, packed, regionMark, stream}
 use Rattle.codestream.specs.Writing.{shotFor, writeTests}
-use Rattle.codestream.specs.Reading.{Numbers, answerOf, planeOf, badPlanes, readTests, readNumbers, shotRead, planeAfter, maskAfter}
+use Rattle.codestream.specs.Reading.{Numbers, answerOf, planeOf, badPlanes, readTests, readNumbers, ReadBack}
 use Rattle.codestream.proofs.Accepted.{taken, Writable, write-passed, planes-most}
 use Rattle.codestream.proofs.Parts.{Parts, stream-parts}
 use Rattle.codestream.proofs.Bodies.{bodyAnswer, filled, body-whole, body-ends, body-plane}
@@ -42,12 +38,6 @@ numbers-taken : (ok : Bool) (f k j r : ℕ) (a : Answer) → ok ≡ true → f �
     → _≡_ {A = Numbers} (record { refusal = f; marks = choose ok k 0; whole = choose ok (a .whole) false; regionMark = choose ok (a .regionMark) 0; q = choose ok (a .q) 0 })
     (record { refusal = 0; marks = j; whole = true; regionMark = r; q = 0 })
 numbers-taken ok f k j r a o e d w m q = rw (o, e, d, w, m, q)
-
-pub record ReadBack (x : List ℕ) (s : Shot) (l p : List ℤ) (b : List ℕ) : Type 0 where
-  pub numbers : readNumbers x (length p) (length b) ≡ record { refusal = 0; marks = marks s; whole = true; regionMark = regionMark s l; q = 0 }
-  pub shot : shotRead x (length p) (length b) ≡ s
-  pub plane : planeAfter x (length b) p ≡ l
-  pub mask : maskAfter x (length p) b ≡ shotMask s
 
 module _ {s : Shot} {l : List ℤ} (w : Writable s l) where
   tests-behind : (b : List ℕ) (e n m : ℕ) → n ≡ area s → m ≡ area s → badFilling b e ≡ false → accepted (testsBehind s b e n m) ≡ true

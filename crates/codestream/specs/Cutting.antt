@@ -1,19 +1,22 @@
--- What the cutter of codestreams answers and leaves in its buffers (document 01, "Truncation and the stream", "Turned back").
+-- What the cutter of codestreams answers and leaves in its buffers (docs/FORMAT.md, "Cutting", "Refusals" and "Calls").
 --
---   cutTo l c            == the stream l cut to c bytes: its first c bytes with c − 4 in the length field
---   badCut l c           == 15: wanted length below the region mark or above the stream, or marked part not whole
---   cutTests l n m c o   == the refusals of the call: those of the reader, then 15, 11; n, m and o are the lengths of plane, mask and stream buffer
---   lengthTests l c o    == those behind the reader's
---   Numbers              == the call's result numbers: refusal, length (under 11 the needed one)
---   numbersUnder, streamUnder == the result numbers and the stream buffer, where f is the number of the first test that holds
---   cutNumbers, streamAfter == those of the call; plane and mask hold the reader's answer
+--   cutTo l c               == the stream l cut to c bytes: its first c bytes with c − 4 in the length field
+--   badCut l c              == 15: wanted length below the region mark or above the stream, or marked part not whole
+--   cutTests l n m c o      == the refusals of the call: those of the reader, then 15, 11; n, m and o are the lengths of plane, mask and stream buffer
+--   lengthTests l c o       == those behind the reader's: 15, 11
+--   Numbers                 == the call's result numbers: refusal, length (under 11 the needed one)
+--   numbersUnder f c        == the result numbers, where f is the number of the first test that holds
+--   streamUnder f l c out   == the stream buffer then; bytes past the wanted length keep what they held
+--   cutNumbers l n m c o    == the result numbers of the call; plane and mask hold the reader's answer
+--   streamAfter l n m c out == the stream buffer after the call
+--   Bytes l                 == each number of l is a byte
 --
 -- Assumes nothing: these are definitions.
 use mathlib.Core.Bool.{Bool, not, _||_}
 use mathlib.Core.List.{List, [], _∷_, _++_}
-use Prim.Native.Nat.{ℕ, _-_}
+use Prim.Native.Nat.{ℕ, _-_, _<_}
 use lib.Dec.{ltb, eqb}
-use lib.ListN.{length, take, drop}
+use lib.ListN.{length, take, drop, getD}
 use Rattle.line.specs.Cells.{choose}
 use Rattle.refusal.specs.Numbers.{Test, test, first}
 use Rattle.header.specs.Fields.{bytesOf}
@@ -47,3 +50,6 @@ cutNumbers l n m c o = numbersUnder (first (cutTests l n m c o)) c
 
 abbrev pub streamAfter : List ℕ → ℕ → ℕ → ℕ → List ℕ → List ℕ
 streamAfter l n m c out = streamUnder (first (cutTests l n m c (length out))) l c out
+
+abbrev pub Bytes : List ℕ → Type 0
+Bytes l = (i : ℕ) → getD l i 0 < 256

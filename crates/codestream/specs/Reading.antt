@@ -1,20 +1,27 @@
--- What the reader of codestreams answers and leaves in its buffers (document 01, "Truncation and the stream", "Turned back").
+-- What the reader of codestreams answers and leaves in its buffers (docs/FORMAT.md, "Reading", "Refusals" and "Calls").
 --
---   answerOf l           == what the body of the stream l gives, under the mask that its header's rectangles make
---   planeOf l            == its coefficients, row by row
---   badPlanes T          == 14: T above 22
---   readTests l n m      == the refusals of the call, in document 01's order: 12, 13, 1, 2, 3, 4, 7, 8, 14, 5, 16;
---                           n and m are the lengths of the plane buffer and of the mask buffer
---   otherTests, fillingTest == those behind the setting's, and the last of them
---   Numbers              == the call's result numbers: refusal, marks, whole, region mark, q
---   numbersUnder, shotUnder, heldUnder
---                        == the result numbers, the header and a buffer, where f is the number of the first test that holds:
---                           under 16 a buffer holds zeros, under another refusal what it held
---   readNumbers, shotRead, planeAfter, maskAfter == those of the call
+--   answerOf l              == what the body of the stream l gives, under the mask that its header's rectangles make
+--   planeOf l               == its coefficients, row by row
+--   badPlanes T             == 14: T above 22
+--   readTests l n m         == the refusals of the call, in order: 12, 13, 1, 2, 3, 4, 7, 8, 14, 5, 16;
+--                              n and m are the lengths of the plane buffer and of the mask buffer
+--   otherTests l n m        == those behind the setting's
+--   fillingTest l           == the last of them, 16
+--   Numbers                 == the call's result numbers: refusal, marks, whole, region mark, q
+--   noShot                  == the header under a refusal: every number 0
+--   numbersUnder f l        == the result numbers, where f is the number of the first test that holds
+--   shotUnder f l           == the header then
+--   heldUnder o f done held == a buffer then: under 16 it holds zeros, under another refusal what it held
+--   readNumbers l n m       == the result numbers of the call
+--   shotRead l n m          == the header that it returns
+--   planeAfter l m plane    == the plane buffer after the call
+--   maskAfter l n mask      == the mask buffer after the call
+--   ReadBack x s l p b      == reading the stream x into the buffers p and b gives the shot s, its marks and mask, the plane l, whole, its region mark, q = 0
 --
 -- Assumes nothing: these are definitions.
-use mathlib.Core.Bool.{Bool, false}
+use mathlib.Core.Bool.{Bool, false, true}
 use mathlib.Core.List.{List, [], _∷_, _++_}
+use mathlib.Core.Path.{_≡_}
 use Prim.Native.Nat.{ℕ}
 use lib.Dec.{ltb, eqb}
 use lib.IntN.{ℤ, pos}
@@ -26,7 +33,7 @@ use Rattle.refusal.specs.Tests.{badLength}
 use Rattle.header.specs.Header.{frontLength, bodyTests, bodyOf}
 use Rattle.header.specs.Fields.{Shot, shotOf}
 use Rattle.shot.specs.Shots.{shotMask, marks, settingTests, rectangleTests}
-use Rattle.codestream.specs.Stream.{area, markedPasses, unmarkedPasses}
+use Rattle.codestream.specs.Stream.{area, markedPasses, unmarkedPasses, regionMark}
 
 abbrev pub answerOf : List ℕ → Answer
 answerOf l = let s = shotOf l in answer (frontLength l) (received (bodyOf l)) (area s) (markedPasses s) (unmarkedPasses s)
@@ -89,3 +96,9 @@ planeAfter l m plane = heldUnder (pos 0) (first (readTests l (length plane) m)) 
 
 abbrev pub maskAfter : List ℕ → ℕ → List ℕ → List ℕ
 maskAfter l n mask = heldUnder 0 (first (readTests l n (length mask))) (shotMask (shotOf l)) mask
+
+pub record ReadBack (x : List ℕ) (s : Shot) (l p : List ℤ) (b : List ℕ) : Type 0 where
+  pub numbers : readNumbers x (length p) (length b) ≡ record { refusal = 0; marks = marks s; whole = true; regionMark = regionMark s l; q = 0 }
+  pub shot : shotRead x (length p) (length b) ≡ s
+  pub plane : planeAfter x (length b) p ≡ l
+  pub mask : maskAfter x (length p) b ≡ shotMask s

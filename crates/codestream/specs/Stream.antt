@@ -1,15 +1,15 @@
--- The codestream of a plane (document 01, "Truncation and the stream").
+-- The codestream of a plane (docs/FORMAT.md, "Body" and "Lengths").
 --
---   area s             == W · H
---   front s            == the length before the body, 14 + 8k
---   markedPasses s     == the marked coefficients' planes, T − 1 down to 0
---   unmarkedPasses s   == those of the unmarked
---   markedPart s l     == the bits of the marked part of the body, of the plane l
---   bodyBits s l       == the bits of the body
---   packed l           == the bits l as bytes, the last one filled with zeros
---   totalLength s l    == the stream's length
---   regionMark s l     == the length up to the byte that ends the marked part, or up to the body if that part has no bit
---   stream s l         == the stream
+--   area s           == W · H
+--   front s          == the length before the body, 14 + 8k
+--   markedPasses s   == the marked coefficients' planes, T − 1 down to 0
+--   unmarkedPasses s == those of the unmarked
+--   markedPart s l   == the bits of the marked part of the body, of the plane l
+--   bodyBits s l     == the bits of the body
+--   packed l         == the bits l as bytes, the last one filled with zeros
+--   totalLength s l  == the stream's length
+--   regionMark s l   == the length up to the byte that ends the marked part, or up to the body if that part has no bit
+--   stream s l       == the stream
 --
 -- Assumes nothing: these are definitions.
 use mathlib.Core.List.{List, _++_}

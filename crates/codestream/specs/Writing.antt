@@ -1,13 +1,18 @@
--- What the writer of codestreams answers and leaves in its buffers (document 01, "Truncation and the stream", "Turned back").
+-- What the writer of codestreams answers and leaves in its buffers (docs/FORMAT.md, "Refusals" and "Calls").
 --
---   shotFor k J D W H rs l  == the shot of a plane l, with the setting and the rectangle numbers of the call
---   writeTests s l m n      == the refusals of the call, in document 01's order: 1, 2, 3, 4, 7, 8, 5, 10, 11;
---                              m and n are the lengths of the mask buffer and of the stream buffer
---   otherTests, roomTest    == those behind the setting's, and the last of them
---   Numbers                 == the call's result numbers: refusal, total length (under 11 the needed one), region mark, number of marks
---   numbersUnder, maskUnder, streamUnder
---                           == the result numbers, the mask buffer and the stream buffer, where f is the number of the first test that holds
---   writeNumbers, maskAfter, streamAfter == those of the call
+--   shotFor k J D W H rs l == the shot of a plane l, with the setting and the rectangle numbers of the call
+--   writeTests s l m n     == the refusals of the call, in order: 1, 2, 3, 4, 7, 8, 5, 10, 11;
+--                             m and n are the lengths of the mask buffer and of the stream buffer
+--   otherTests s l m n     == those behind the setting's
+--   roomTest s l n         == the last of them, 11
+--   Numbers                == the call's result numbers: refusal, total length (under 11 the needed one), region mark, number of marks
+--   maskFilled f           == where f is the number of the first test that holds, the mask is filled
+--   numbersUnder f s l     == the result numbers, where f is the number of the first test that holds
+--   maskUnder f s mask     == the mask buffer then
+--   streamUnder f s l out  == the stream buffer then; bytes past the total keep what they held
+--   writeNumbers s l m n   == the result numbers of the call
+--   maskAfter s l n mask   == the mask buffer after the call
+--   streamAfter s l m out  == the stream buffer after the call
 --
 -- Assumes nothing: these are definitions.
 use mathlib.Core.Bool.{Bool, _||_}
@@ -45,19 +50,19 @@ pub record Numbers : Type 0 where
   pub marks : ℕ
 
 -- the mask is drawn before the stream's room is asked for
-abbrev pub drawn : ℕ → Bool
-drawn f = eqb f 0 || eqb f 11
+abbrev pub maskFilled : ℕ → Bool
+maskFilled f = eqb f 0 || eqb f 11
 
 abbrev pub numbersUnder : ℕ → Shot → List ℤ → Numbers
 numbersUnder f s l = record {
   refusal = f;
-  total = choose (drawn f) (totalLength s l) 0;
+  total = choose (maskFilled f) (totalLength s l) 0;
   regionMark = choose (eqb f 0) (regionMark s l) 0;
   marks = choose (eqb f 0) (marks s) 0;
 }
 
 abbrev pub maskUnder : ℕ → Shot → List ℕ → List ℕ
-maskUnder f s mask = choose (drawn f) (shotMask s) mask
+maskUnder f s mask = choose (maskFilled f) (shotMask s) mask
 
 -- bytes past the total keep what they held
 abbrev pub streamUnder : ℕ → Shot → List ℤ → List ℕ → List ℕ

@@ -1,4 +1,4 @@
--- The bit cursor (document 01, "A bit cursor over the lent body keeps the place").
+-- The bit cursor: it keeps the place in a body that is read (docs/FORMAT.md, "Body").
 --
 --   over body p  == the cursor over the body at the place p
 --   bitHere c    == the bit at the cursor's place; 0 past the end of the body

@@ -22,7 +22,8 @@ use Rattle.decoder.specs.Answers as decoder
 use Rattle.decoder.specs.declared.Body.{Body}
 use Rattle.decoder.specs.declared.Outcome.{Outcome as Outcome′}
 use Rattle.decoder.specs.declared.Outcome.the-variants.{Done as Done′, Refused as Refused′}
-use Rattle.cutter.specs.Answers.{numbersOf, Read, Answered}
+use Rattle.cutter.specs.Inner.{Read, Answered}
+use Rattle.cutter.specs.Answers.{numbersOf}
 use Rattle.cutter.specs.declared.Outcome.{Outcome}
 use Rattle.cutter.specs.declared.Outcome.the-variants.{Done, TooShort, Refused}
 

@@ -1,18 +1,10 @@
--- What the cutter answers.
+-- What the cutter answers, in numbers (docs/FORMAT.md, "Calls").
 --
---   numbersOf r        == document 01's result numbers of an answer
---   Read l whole mark  == the stream l was accepted by the reader, with these numbers
---   Answered f ..      == the answer r, and what the stream buffer then holds, where f is the number of the first test that holds, 0 if none does
+--   numbersOf r == the result numbers of an answer
 --
 -- Assumes nothing: these are definitions.
-use mathlib.Core.Path.{_≡_}
-use mathlib.Core.Bool.{Bool, false}
-use mathlib.Core.List.{List}
-use Prim.Native.Nat.{ℕ}
-use Rattle.refusal.specs.Numbers.{test, refusalNumber}
-use Rattle.header.specs.Header.{badHeader}
-use Rattle.codestream.specs.Reading.{answerOf}
-use Rattle.codestream.specs.Cutting.{Numbers, numbersUnder, streamUnder}
+use Rattle.refusal.specs.Numbers.{refusalNumber}
+use Rattle.codestream.specs.Cutting.{Numbers}
 use Rattle.cutter.specs.declared.Outcome.{Outcome}
 use Rattle.cutter.specs.declared.Outcome.the-variants.{Done, TooShort, Refused}
 
@@ -20,12 +12,3 @@ abbrev pub numbersOf : Outcome → Numbers
 numbersOf (Done n) = record { refusal = 0; length = n }
 numbersOf (TooShort n) = record { refusal = 11; length = n }
 numbersOf (Refused r) = record { refusal = refusalNumber r; length = 0 }
-
-pub record Read (l : List ℕ) (whole : Bool) (mark : ℕ) : Type 0 where
-  pub header : badHeader l ≡ false
-  pub whole-is : whole ≡ answerOf l .whole
-  pub mark-is : mark ≡ answerOf l .regionMark
-
-pub record Answered (f : ℕ) (l : List ℕ) (c : ℕ) (out out′ : List ℕ) (r : Outcome) : Type 0 where
-  pub numbers : numbersOf r ≡ numbersUnder f c
-  pub held : out′ ≡ streamUnder f l c out

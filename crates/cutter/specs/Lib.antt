@@ -1,2 +1,3 @@
 -- What the contracts of the cutter cite.
 pub mod Answers
+pub mod Inner

@@ -4,7 +4,8 @@ ghost use lib.ListN.{length};
 ghost use Rattle.refusal.specs.Numbers.{first};
 ghost use Rattle.codestream.specs.Reading.{planeAfter, maskAfter};
 ghost use Rattle.codestream.specs.Cutting.{lengthTests, cutNumbers, streamAfter};
-ghost use Rattle.cutter.specs.Answers.{numbersOf, Read, Answered};
+ghost use Rattle.cutter.specs.Inner.{Read, Answered};
+ghost use Rattle.cutter.specs.Answers.{numbersOf};
 use refusal::Refusal;
 
 // What `cut` answers. `TooShort` is refusal 11, with the needed length.

@@ -18,13 +18,15 @@ use Rattle.refusal.specs.declared.Refusal.{Refusal}
 use Rattle.refusal.proofs.Named.{named}
 use Rattle.header.specs.Header.{number, badHeader, badVersion}
 use Rattle.header.specs.Fields.{numbers, shotOf}
-use Rattle.shot.specs.Shots.{maskBytes, shotMask, settingNumber}
+use Rattle.shot.specs.Inner.{settingNumber}
+use Rattle.shot.specs.Shots.{maskBytes, shotMask}
 use Rattle.shot.specs.declared.Setting.{Setting}
 use Rattle.shot.specs.declared.Setting.the-variants.{Refused as Refused′}
 use Rattle.shot.proofs.Settings.{setting-most}
 use Rattle.codestream.specs.Reading.{otherTests, fillingTest, readTests, readNumbers, shotRead, planeAfter, maskAfter}
 use Rattle.codestream.specs.Reading as reading
-use Rattle.decoder.specs.Answers.{numbersOf, headerFor, refusedWith, rectangleArray, Found, Answered}
+use Rattle.decoder.specs.Inner.{refusedWith, rectangleArray, Found, Answered}
+use Rattle.decoder.specs.Answers.{numbersOf, headerFor}
 use Rattle.decoder.specs.declared.Body.{Body}
 use Rattle.decoder.specs.declared.Header.{Header}
 use Rattle.decoder.specs.declared.Outcome.{Outcome}

@@ -13,22 +13,22 @@ use Rattle.line.proofs.Cells.{by-lt}
 use Rattle.line.proofs.Lists.{is-listed}
 use Rattle.bitplane.specs.Body.{class, planes}
 use Rattle.bitplane.specs.Reader.{received, read, start, badFilling}
-use Rattle.reader.specs.Reads.{BodyRead}
-use Rattle.reader.proofs.Passes.{stopped-near, stopped-not, stopped-was}
-use Rattle.reader.proofs.Filling.{filling-stopped}
 use Rattle.refusal.specs.Numbers.{first}
 use Rattle.refusal.specs.declared.Refusal.the-variants.{Filling}
 use Rattle.refusal.proofs.Ordered.{none, here, next}
-use Rattle.scan.specs.Scan.{markCount}
+use Rattle.region.specs.Drawing.{Filled}
+use Rattle.scan.specs.Inner.{markCount}
 use Rattle.header.specs.Header.{frontLength, badHeader, bodyOf}
 use Rattle.header.specs.Fields.{shotOf}
 use Rattle.header.proofs.Parts.{good-small}
-use Rattle.region.specs.Drawing.{Filled}
+use Rattle.reader.specs.Reads.{BodyRead}
+use Rattle.reader.proofs.Passes.{stopped-near, stopped-not, stopped-was}
+use Rattle.reader.proofs.Filling.{filling-stopped}
 use Rattle.shot.specs.Shots.{marks}
 use Rattle.shot.proofs.Masks.{mask-length, mask-binary}
 use Rattle.codestream.specs.Stream.{area, markedPasses, unmarkedPasses}
 use Rattle.codestream.specs.Reading.{answerOf, planeOf, fillingTest}
-use Rattle.decoder.specs.Answers.{Masked, Found}
+use Rattle.decoder.specs.Inner.{Masked, Found}
 use Rattle.decoder.specs.declared.Outcome.the-variants.{Done, Refused}
 
 -- the length field bounds the body

@@ -1,2 +1,3 @@
 -- What the contracts of the reader of codestreams cite.
 pub mod Answers
+pub mod Inner

@@ -4,7 +4,8 @@ ghost use Prim.Native.Nat.{_+_, _*_, _≤_};
 ghost use lib.ListN.{length};
 ghost use Rattle.refusal.specs.Numbers.{first};
 ghost use Rattle.codestream.specs.Reading.{otherTests, fillingTest, readNumbers, shotRead, planeAfter, maskAfter};
-ghost use Rattle.decoder.specs.Answers.{numbersOf, headerFor, refusedWith, rectangleArray, Set, Masked, Found, Answered};
+ghost use Rattle.decoder.specs.Inner.{refusedWith, rectangleArray, Set, Masked, Found, Answered};
+ghost use Rattle.decoder.specs.Answers.{numbersOf, headerFor};
 use kernel::Kernel;
 use refusal::Refusal;
 use shot::Setting;
@@ -21,7 +22,7 @@ pub struct Header {
     pub rectangles: [u32; 128],
 }
 
-// What was found in a body; `missing` is document 01's q.
+// What was found in a body; `missing` is q, the planes of the unmarked that were not wholly received.
 pub struct Body {
     pub marks: usize,
     pub whole: bool,
@@ -29,6 +30,7 @@ pub struct Body {
     pub missing: u64,
 }
 
+// What was found, or the refusal.
 pub enum Outcome {
     Done(Body),
     Refused(Refusal),

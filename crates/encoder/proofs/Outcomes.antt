@@ -16,7 +16,8 @@ use Rattle.refusal.specs.declared.Refusal.{Refusal}
 use Rattle.refusal.proofs.Named.{named}
 use Rattle.refusal.proofs.Ordered.{next, is, numbered, first-append}
 use Rattle.header.specs.Fields.{Shot}
-use Rattle.shot.specs.Shots.{shotMask, marks, settingTests, rectangleTests, settingNumber, Set}
+use Rattle.shot.specs.Inner.{settingNumber, Set}
+use Rattle.shot.specs.Shots.{shotMask, marks, settingTests, rectangleTests}
 use Rattle.shot.specs.declared.Setting.{Setting}
 use Rattle.shot.specs.declared.Setting.the-variants.{Taken}
 use Rattle.shot.specs.declared.Setting.the-variants as set
@@ -25,7 +26,8 @@ use Rattle.codestream.specs.Stream.{area, totalLength, regionMark, stream}
 use Rattle.codestream.specs.Writing.{otherTests, roomTest, writeTests, writeNumbers, maskAfter, streamAfter}
 use Rattle.encoder.specs.declared.Outcome.{Outcome}
 use Rattle.encoder.specs.declared.Outcome.the-variants.{Written, TooShort, Refused}
-use Rattle.encoder.specs.Answers.{numbersOf, Answered}
+use Rattle.encoder.specs.Inner.{Answered}
+use Rattle.encoder.specs.Answers.{numbersOf}
 
 module _ {s : Shot} {l : List ℤ} {mask out : List ℕ} where
   -- a refusal that is not 11 leaves both buffers alone

@@ -4,27 +4,28 @@ use mathlib.Core.List.{List, _++_, append-assoc}
 use Prim.Native.Nat.{ℕ, _+_, _*_, _-_, _/_, _≤_}
 use native.Mathlib.Omega.{arith}
 use native.Mathlib.Nat.{mul-le-mul}
-use borrow.Rule.Slice.PartMut.{midOf, putMid, post-is, mid-len}
 use lib.Dec.{ltb}
 use lib.IntN.{ℤ, natAbs}
 use lib.ListN.{length, take, drop, length-append, length-drop}
 use lib.Seq.{ext-getD, length-take-le, getD-take, getD-drop}
+use borrow.Rule.Slice.PartMut.{midOf, putMid, post-is, mid-len}
+use Rattle.line.specs.Cells.{cell}
 use Rattle.line.proofs.Lists.{is-listed}
 use Rattle.bitplane.specs.Bits.{byteAt, bytes}
 use Rattle.bitplane.specs.Body.{class, planes, body}
-use Rattle.line.specs.Cells.{cell}
-use Rattle.writer.specs.Written.{part, BodyReady, BodyWritten}
-use Rattle.scan.specs.Scan.{digits, signCount, markCount}
+use Rattle.scan.specs.Inner.{signCount, markCount}
+use Rattle.scan.specs.Scan.{digits}
 use Rattle.scan.proofs.Counting.{count-le}
 use Rattle.header.specs.Fields.{Shot, header}
 use Rattle.header.specs.Writing.{Fit, Headed}
 use Rattle.header.proofs.Writing.{header-size}
+use Rattle.writer.specs.Written.{part, BodyReady, BodyWritten}
 use Rattle.shot.specs.Shots.{shotMask, marks}
 use Rattle.codestream.specs.Stream.{area, front, unmarkedPasses, markedPart, bodyBits, packed, totalLength, stream}
 use Rattle.codestream.proofs.Accepted.{Writable, rectangles-of, planes-most}
 use Rattle.codestream.proofs.Lengths.{shot-mask-length, shot-mask-binary, body-length, area-most, total-most}
 use Rattle.codestream.proofs.Headers.{held}
-use Rattle.encoder.specs.Answers.{Masked}
+use Rattle.encoder.specs.Inner.{Masked}
 
 -- ---- the buffer
 header-in : (s : Shot) (total : ℕ) (out x : List ℕ) → Headed s total out x → front s ≤ length out → take (front s) x ≡ header s total

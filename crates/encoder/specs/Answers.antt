@@ -1,23 +1,12 @@
--- What the writer answers.
+-- What the writer answers, in numbers (docs/FORMAT.md, "Calls").
 --
---   numbersOf r            == document 01's result numbers of an answer
---   Masked s l m big signs == what is known of a call once the mask m is drawn
---   Answered f ..          == the answer r, and what the buffers then hold, where f is the number of the first test that holds, 0 if none does
+--   numbersOf r == the result numbers of an answer
 --
 -- Assumes nothing: these are definitions.
-use mathlib.Core.Path.{_≡_}
-use mathlib.Core.Bool.{true, false}
-use mathlib.Core.List.{List}
-use Prim.Native.Nat.{ℕ}
-use lib.IntN.{ℤ}
-use lib.ListN.{length}
-use Rattle.refusal.specs.Numbers.{test, refusalNumber, accepted}
-use Rattle.refusal.specs.Tests.{badMagnitude}
-use Rattle.scan.specs.Scan.{largest, planeCount, signCount}
-use Rattle.header.specs.Fields.{Shot}
-use Rattle.shot.specs.Shots.{shotMask, marks, settingTests, rectangleTests}
-use Rattle.codestream.specs.Stream.{area, regionMark}
-use Rattle.codestream.specs.Writing.{Numbers, numbersUnder, maskUnder, streamUnder}
+use Rattle.refusal.specs.Numbers.{refusalNumber}
+use Rattle.shot.specs.Shots.{marks}
+use Rattle.codestream.specs.Stream.{regionMark}
+use Rattle.codestream.specs.Writing.{Numbers}
 use Rattle.encoder.specs.declared.Outcome.{Outcome}
 use Rattle.encoder.specs.declared.Outcome.the-variants.{Written, TooShort, Refused}
 
@@ -25,18 +14,3 @@ abbrev pub numbersOf : Outcome → Numbers
 numbersOf (Written n) = record { refusal = 0; total = n .total; regionMark = n .«region_mark»; marks = n .marks }
 numbersOf (TooShort n) = record { refusal = 11; total = n; regionMark = 0; marks = 0 }
 numbersOf (Refused r) = record { refusal = refusalNumber r; total = 0; regionMark = 0; marks = 0 }
-
-pub record Masked (s : Shot) (l : List ℤ) (m : List ℕ) (big signs : ℕ) : Type 0 where
-  pub setting : accepted (settingTests (s .kernel) (s .levels) (s .depth) (s .width) (s .height)) ≡ true
-  pub drawing : accepted (rectangleTests (s .width) (s .height) (s .rectangles)) ≡ true
-  pub full : length l ≡ area s
-  pub magnitude : badMagnitude l ≡ false
-  pub planes : s .planes ≡ planeCount l
-  pub largest-is : big ≡ largest l
-  pub signs-are : signs ≡ signCount l
-  pub mask : m ≡ shotMask s
-
-pub record Answered (f : ℕ) (s : Shot) (l : List ℤ) (mask mask′ out out′ : List ℕ) (r : Outcome) : Type 0 where
-  pub numbers : numbersOf r ≡ numbersUnder f s l
-  pub mask-held : mask′ ≡ maskUnder f s mask
-  pub stream-held : out′ ≡ streamUnder f s l out

@@ -1,9 +1,5 @@
 -- The region as captured: a stream written from the plane of an accepted picture, with the kernel, J, D, W and H under which it was transformed,
--- shows the picture, and each of its cuts from the region mark on shows the picture's region.
---
---   planeFor k J W H samples == the plane of a picture, row by row
---
--- Assumes nothing.
+-- shows the picture, and each of its cuts from the region mark on shows the picture's region. Assumes nothing.
 use mathlib.Core.Path.{_≡_, refl, sym, ap, ap₂, _∙_, subst}
 use mathlib.Core.Bool.{true}
 use mathlib.Core.List.{List}
@@ -15,21 +11,20 @@ use lib.IntN.{ℤ, pos}
 use lib.ListN.{length, getD}
 use borrow.Author.Tests.{eqb-true, not-false}
 use Rattle.kernel.specs.Kernels.{theKernel}
-use Rattle.line.specs.Cells.{listed}
 use Rattle.line.proofs.Lists.{listed-cell}
-use Rattle.bitplane.specs.Reader.{Answer}
 use Rattle.grid.specs.Picture.{Picture, AgreeOn}
 use Rattle.grid.proofs.Passes.{cell, cell-of}
 use Rattle.grid.proofs.Levels.{halves-of}
 use Rattle.plane.specs.Plane.{transformed, maskOf}
 use Rattle.plane.proofs.Inverse.{undo-transform}
+use Rattle.bitplane.specs.Reader.{Answer}
 use Rattle.refusal.specs.Numbers.{accepted}
 use Rattle.refusal.specs.Tests.{badKernel, badLevels, badDepth, badSizeAt, badLength, badSample}
 use Rattle.refusal.proofs.Ordered.{passes-test}
 use Rattle.refusal.proofs.Passed.{Sides, multiples, samples}
-use Rattle.header.specs.Fields.{Shot}
-use Rattle.wavelet.specs.Wavelet.{samplesOf, planeOf, coefficient, transformTests}
+use Rattle.wavelet.specs.Wavelet.{samplesOf, coefficientsOf, coefficient, transformTests}
 use Rattle.samples.specs.Samples.{inRange}
+use Rattle.header.specs.Fields.{Shot}
 use Rattle.codestream.specs.Stream.{area, regionMark, totalLength, stream}
 use Rattle.codestream.specs.Writing.{shotFor, writeTests}
 use Rattle.codestream.specs.Reading as reading
@@ -39,13 +34,10 @@ use Rattle.codestream.proofs.Parts.{Parts, stream-parts, stream-length}
 use Rattle.codestream.proofs.Bodies.{body-whole}
 use Rattle.codestream.proofs.Cuts.{Cuttable}
 use Rattle.codestream.proofs.RoundTrip.{answer-read, tests-read, plane-read}
-use Rattle.exactness.specs.Shown.{shownAt, inRegionAt}
+use Rattle.exactness.specs.Shown.{shownAt, inRegionAt, planeFor}
 use Rattle.exactness.proofs.Regions.{undoneOf, row-in, place-in, undone-agrees}
 use Rattle.exactness.proofs.Cuts.{every-cut}
 use Rattle.exactness.proofs.Written.{stream-bytes}
-
-abbrev pub planeFor : ℕ → ℕ → ℕ → ℕ → List ℕ → List ℤ
-planeFor k J W H samples = listed (W * H) (coefficient k J W H samples)
 
 -- a sample in range is shown as it is
 in-range : (D a : ℕ) → a ≤ 2 ^ D - 1 → inRange D (pos a) ≡ a
@@ -73,7 +65,7 @@ pictured k J D W H l n ok =
 
 -- ---- its plane undone
 module _ (k J D W H : ℕ) (l : List ℕ) (p : Pictured J D W H l) where
-  plane-same : AgreeOn W H (maskOf (theKernel k) J W H (λ y x. true)) (planeOf W (planeFor k J W H l)) (transformed (theKernel k) J W H (samplesOf W l))
+  plane-same : AgreeOn W H (maskOf (theKernel k) J W H (λ y x. true)) (coefficientsOf W (planeFor k J W H l)) (transformed (theKernel k) J W H (samplesOf W l))
   plane-same y x a b t =
       cell (pos 0) W (planeFor k J W H l) y x b ∙ listed-cell (W * H) (coefficient k J W H l) (pos 0) (y * W + x) (place-in W H y x a b) ∙ (rw (digits-div y b, digits-mod y b))
 
@@ -82,7 +74,7 @@ module _ (k J D W H : ℕ) (l : List ℕ) (p : Pictured J D W H l) where
       let K = theKernel k in
       let halves = halves-of J W H (p .levels .0) (p .levels .1) in
       let some = p .sides .width .0 in
-      undone-agrees K J W H (λ y x. true) (planeOf W (planeFor k J W H l)) (transformed K J W H (samplesOf W l)) halves plane-same
+      undone-agrees K J W H (λ y x. true) (coefficientsOf W (planeFor k J W H l)) (transformed K J W H (samplesOf W l)) halves plane-same
       (i / W) (i % W) (row-in W H i some h) (mod-lt i some) refl
       ∙ ap (λ (R : Picture ℤ). R (i / W) (i % W)) (undo-transform K J W H (samplesOf W l) halves) ∙ ap pos (sym (cell-of 0 W l H i (omega (arith, mul-comm W H))))
 

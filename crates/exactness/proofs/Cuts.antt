@@ -1,10 +1,4 @@
--- Every cut of an accepted stream, from its region mark on, is accepted again and shows the region exactly.
---
---   Exact l n m c == what the stream l cut to c bytes has in common with l, read into buffers of n coefficients and m mask bytes:
---     the same header but for the length field (so the same rectangles, mask and marks), region mark, marked coefficients, and in the
---     region the same undone numbers and shown samples; and the cutter gives it into every buffer that has room
---
--- Assumes nothing.
+-- Every cut of an accepted stream, from its region mark on, is accepted again and shows the region exactly. Assumes nothing.
 use mathlib.Core.Path.{_≡_, refl, sym, ap, ap₂, _∙_, subst}
 use mathlib.Core.Bool.{true, false}
 use mathlib.Core.List.{List, _++_}
@@ -22,32 +16,21 @@ use Rattle.bitplane.proofs.Cut.{planes-upto}
 use Rattle.refusal.specs.Numbers.{first, accepted}
 use Rattle.refusal.specs.Tests.{badLength}
 use Rattle.refusal.proofs.Ordered.{passes-test, numbered, accepted-both, accepted-join}
+use Rattle.samples.specs.Samples.{inRange}
 use Rattle.header.specs.Header.{frontLength, bodyTests, bodyOf}
 use Rattle.header.specs.Fields.{Shot, shotOf}
-use Rattle.samples.specs.Samples.{inRange}
 use Rattle.shot.specs.Shots.{shotMask, marks, settingTests, rectangleTests}
 use Rattle.codestream.specs.Stream.{area, markedPasses}
 use Rattle.codestream.specs.Reading.{answerOf, planeOf, badPlanes, readTests, readNumbers}
-use Rattle.codestream.specs.Cutting.{cutTo, cutTests}
+use Rattle.codestream.specs.Cutting.{cutTo, cutTests, Bytes}
 use Rattle.codestream.proofs.Accepted.{taken, setting-passed}
 use Rattle.codestream.proofs.Lengths.{shot-mask-length}
-use Rattle.codestream.proofs.Cuts.{Bytes, Headed, headed, Cuttable, cut-taken, cut-passed}
+use Rattle.codestream.proofs.Cuts.{Headed, headed, Cuttable, cut-taken, cut-passed}
 use Rattle.codestream.proofs.RoundTrip.{lastTests, testsBehind, answerFrom}
-use Rattle.exactness.specs.Shown.{undoneAt, shownAt, inRegionAt}
+use Rattle.exactness.specs.Shown.{undoneAt, inRegionAt}
+use Rattle.exactness.specs.Demands.{Exact}
 use Rattle.exactness.proofs.Bodies.{Kept, kept}
 use Rattle.exactness.proofs.Regions.{undoneOf, region-same}
-
-pub record Exact (l : List ℕ) (n m c : ℕ) : Type 0 where
-  pub size : length (cutTo l c) ≡ c
-  pub accepted : accepted (readTests (cutTo l c) n m) ≡ true
-  pub shot : shotOf (cutTo l c) ≡ shotOf l
-  pub whole : answerOf (cutTo l c) .whole ≡ true
-  pub region-mark : answerOf (cutTo l c) .regionMark ≡ answerOf l .regionMark
-  pub marks : readNumbers (cutTo l c) n m .marks ≡ readNumbers l n m .marks
-  pub marked : (i : ℕ) → i < area (shotOf l) → getD (shotMask (shotOf l)) i 2 ≡ 1 → getD (planeOf (cutTo l c)) i (pos 0) ≡ getD (planeOf l) i (pos 0)
-  pub undone : (i : ℕ) → i < area (shotOf l) → inRegionAt (shotOf l) i ≡ true → undoneAt (cutTo l c) i ≡ undoneAt l i
-  pub shown : (i : ℕ) → i < area (shotOf l) → inRegionAt (shotOf l) i ≡ true → shownAt (cutTo l c) i ≡ shownAt l i
-  pub taken : (o : ℕ) → c ≤ o → first (cutTests l n m c o) ≡ 0
 
 -- ---- the reader's tests behind those of the header: they pass for another body that is well filled
 module _ (s : Shot) (b : List ℕ) (e n m : ℕ) (ok : accepted (testsBehind s b e n m) ≡ true) where

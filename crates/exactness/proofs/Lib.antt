@@ -1,7 +1,7 @@
--- The theorems on cut streams.
+-- The theorems on cut streams, and the proofs of demands 2 and 3.
 pub mod Bodies
 pub mod Regions
 pub mod Cuts
 pub mod Written
 pub mod Captured
-pub mod Demand
+pub mod Demands

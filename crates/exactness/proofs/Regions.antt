@@ -14,15 +14,16 @@ use lib.IntN.{ℤ, pos}
 use lib.ListN.{getD}
 use Rattle.kernel.specs.declared.Kernel.{Kernel}
 use Rattle.kernel.specs.Kernels.{theKernel}
+use Rattle.line.specs.Mask.{byteOf}
 use Rattle.line.proofs.Lists.{listed-cell}
-use Rattle.marking.specs.Marks.{byteOf}
-use Rattle.grid.specs.Picture.{Picture, AgreeOn, Halves}
+use Rattle.grid.specs.Buffer.{Halves}
+use Rattle.grid.specs.Picture.{Picture, AgreeOn}
 use Rattle.grid.proofs.Passes.{cell}
 use Rattle.grid.proofs.Levels.{halves-of}
 use Rattle.plane.specs.Plane.{undone, maskOf}
 use Rattle.plane.proofs.Levels.{level-agrees, region-level, undone-level}
+use Rattle.wavelet.specs.Wavelet.{coefficientsOf, undoneNumber}
 use Rattle.header.specs.Fields.{Shot}
-use Rattle.wavelet.specs.Wavelet.{planeOf, undoneNumber}
 use Rattle.shot.specs.Shots.{drawn, maskBytes, shotMask}
 use Rattle.codestream.specs.Stream.{area}
 use Rattle.codestream.proofs.Accepted.{Setting}
@@ -67,10 +68,10 @@ module _ (s : Shot) (set : Setting (s .kernel) (s .levels) (s .depth) (s .width)
       ∙ (rw (digits-div y q, digits-mod y q, t))
 
   module _ (p p′ : List ℤ) (same : (i : ℕ) → i < area s → getD (shotMask s) i 2 ≡ 1 → getD p i (pos 0) ≡ getD p′ i (pos 0)) where
-    agree : AgreeOn W H (maskOf k (s .levels) W H B) (planeOf W p) (planeOf W p′)
+    agree : AgreeOn W H (maskOf k (s .levels) W H B) (coefficientsOf W p) (coefficientsOf W p′)
     agree y x a b t = cell (pos 0) W p y x b ∙ same (y * W + x) (place-in W H y x a b) (mask-cell y x a b t) ∙ sym (cell (pos 0) W p′ y x b)
 
     pub region-same : (i : ℕ) → i < area s → inRegionAt s i ≡ true → undoneOf s p i ≡ undoneOf s p′ i
     region-same i h t = let J = s .levels in
-        undone-agrees k J W H B (planeOf W p) (planeOf W p′) (halves-of J W H (set .multiples .0) (set .multiples .1)) agree
+        undone-agrees k J W H B (coefficientsOf W p) (coefficientsOf W p′) (halves-of J W H (set .multiples .0) (set .multiples .1)) agree
         (i / W) (i % W) (row-in W H i (set .sides .width .0) h) (mod-lt i (set .sides .width .0)) t

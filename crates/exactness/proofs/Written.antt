@@ -14,7 +14,7 @@ use Rattle.bitplane.specs.Body.{body}
 use Rattle.bitplane.proofs.Bytes.{Binary, binary-append, body-binary}
 use Rattle.header.specs.Fields.{bytesOf, Field, laid, Shot, fixedFields, rectangleFields, header}
 use Rattle.codestream.specs.Stream.{area, markedPasses, unmarkedPasses, markedPart, bodyBits, packed, totalLength, stream}
-use Rattle.codestream.proofs.Cuts.{Bytes}
+use Rattle.codestream.specs.Cutting.{Bytes}
 
 bytes-none : Bytes []
 bytes-none i = omega arith

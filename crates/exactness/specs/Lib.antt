@@ -1,2 +1,3 @@
--- What the theorems on cut streams speak of.
+-- What a stream shows, and what demands 2 and 3 say.
 pub mod Shown
+pub mod Demands

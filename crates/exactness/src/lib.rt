@@ -1,1 +1,1 @@
-// Demand 3 in one piece, as definitions and theorems; no code.
+// Demands 2 and 3, each in one piece, as definitions and theorems; no code.

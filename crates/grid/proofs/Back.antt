@@ -1,9 +1,11 @@
 -- The round trips of pictures: where one transform of lines undoes another, its walk undoes the other's walk, either way round. Assumes nothing.
 use mathlib.Core.Path.{_≡_, refl, ap, _∙_, fun-ext}
 use Prim.Native.Nat.{ℕ, zero, suc, _%_}
-use Rattle.line.specs.Cells.{Line, Agree}
+use Rattle.line.specs.Inner.{Agree}
+use Rattle.line.specs.Cells.{Line}
 use Rattle.line.proofs.Cells.{by-lt}
-use Rattle.grid.specs.Picture.{Picture, Transform, onLine, rowPass, turned, colPass, low, walk, walkBack, Halves}
+use Rattle.grid.specs.Buffer.{Halves}
+use Rattle.grid.specs.Picture.{Picture, Transform, onLine, rowPass, turned, colPass, lowSide, walk, walkBack}
 use Rattle.grid.proofs.Passes.{Local, line-in, line-past, pass-in, pass-past}
 
 -- U undoes T
@@ -26,7 +28,7 @@ module _ {A : Type 0} (T U : Transform A) (local : Local U) (undone : (w : ℕ) 
   unfolding walk walkBack Halves
   walk-back zero w h P s = refl
   walk-back (suc n) w h P s =
-      ap (λ (R : Picture A). rowPass U w h (colPass U w h R)) (walk-back n (low w) (low h) _ (s .2))
+      ap (λ (R : Picture A). rowPass U w h (colPass U w h R)) (walk-back n (lowSide w) (lowSide h) _ (s .2))
       ∙ ap (rowPass U w h) (col-back w h (rowPass T w h P) (s .1))
       ∙ row-back w h P (s .0)
 
@@ -35,6 +37,6 @@ module _ {A : Type 0} (T U : Transform A) (local : Local U) (undone : (w : ℕ) 
   unfolding walk walkBack Halves
   back-walk zero w h P s = refl
   back-walk (suc n) w h P s =
-      ap (λ (R : Picture A). walk U n (low w) (low h) (colPass U w h R)) (row-back w h (colPass T w h (walkBack T n (low w) (low h) P)) (s .0))
-      ∙ ap (walk U n (low w) (low h)) (col-back w h (walkBack T n (low w) (low h) P) (s .1))
-      ∙ back-walk n (low w) (low h) P (s .2)
+      ap (λ (R : Picture A). walk U n (lowSide w) (lowSide h) (colPass U w h R)) (row-back w h (colPass T w h (walkBack T n (lowSide w) (lowSide h) P)) (s .0))
+      ∙ ap (walk U n (lowSide w) (lowSide h)) (col-back w h (walkBack T n (lowSide w) (lowSide h) P) (s .1))
+      ∙ back-walk n (lowSide w) (lowSide h) P (s .2)

@@ -5,9 +5,10 @@ use mathlib.Core.Bool.{Bool}
 use Prim.Native.Nat.{ℕ, zero, suc, _%_, _≤_}
 use native.Mathlib.Omega.{arith}
 use Rattle.line.specs.Cells.{Line}
-use Rattle.line.specs.Cells as line
+use Rattle.line.specs.Inner as line
 use Rattle.line.proofs.Cells.{by-lt}
-use Rattle.grid.specs.Picture.{Picture, Transform, onLine, rowPass, turned, colPass, low, walk, walkBack, Halves, AgreeOn}
+use Rattle.grid.specs.Buffer.{Halves}
+use Rattle.grid.specs.Picture.{Picture, Transform, onLine, rowPass, turned, colPass, lowSide, walk, walkBack, AgreeOn}
 use Rattle.grid.proofs.Passes.{line-in, line-past, pass-in, pass-past}
 
 -- m is the line mask of the way back U; the pictures are of W by H cells
@@ -33,4 +34,4 @@ module _ {A : Type 0} (m : Transform Bool) (U : Transform A)
   walk-covered (suc n) W H w h B P P′ p q s a =
       row-covered W H w h B _ _ p (s .0)
       (col-covered W H w h (rowPass m w h B) _ _ q (s .1)
-      (walk-covered n W H (low w) (low h) (colPass m w h (rowPass m w h B)) P P′ (omega arith) (omega arith) (s .2) a))
+      (walk-covered n W H (lowSide w) (lowSide h) (colPass m w h (rowPass m w h B)) P P′ (omega arith) (omega arith) (s .2) a))

@@ -11,10 +11,11 @@ use native.Mathlib.Omega.{arith}
 use lib.Arith.{digits-div, digits-mod}
 use lib.ListN.{getD}
 use borrow.Author.Tests.{lt-ltb, le-ltb}
-use Rattle.line.specs.Cells.{Line, Agree}
+use Rattle.line.specs.Inner.{Agree}
+use Rattle.line.specs.Cells.{Line}
 use Rattle.line.proofs.Cells.{by-lt}
-use Rattle.grid.specs.Picture.{Picture, Transform, onLine, rowPass, turned}
-use Rattle.grid.specs.Buffer.{picture, strided, Lines}
+use Rattle.grid.specs.Picture.{Picture, Transform, onLine, rowPass, turned, picture}
+use Rattle.grid.specs.Buffer.{strided, Lines}
 
 abbrev pub Local : {A : Type 0} → Transform A → Type 0
 Local {A} T = (w : ℕ) (X Y : Line A) → w % 2 ≡ 0 → Agree w X Y → Agree w (T w X) (T w Y)

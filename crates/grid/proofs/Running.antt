@@ -10,8 +10,8 @@ use Prim.Native.Nat.{ℕ, _+_, _*_, _/_, _%_, _<_, _≤_}
 use native.Mathlib.Omega.{arith}
 use lib.Arith.{digits-lt}
 use lib.ListN.{length}
-use Rattle.grid.specs.Picture.{Transform, rowPass, turned}
-use Rattle.grid.specs.Buffer.{picture, InBuffer, Lines}
+use Rattle.grid.specs.Picture.{Transform, rowPass, turned, picture}
+use Rattle.grid.specs.Buffer.{InBuffer, Lines}
 use Rattle.grid.proofs.Passes.{Local, pass-none, row-more, col-more}
 
 pub record RowsPassed {A : Type 0} (o : A) (T : Transform A) (W w h y : ℕ) (l₀ a₀ b₀ l a b : List A) : Type 0 where

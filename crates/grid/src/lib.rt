@@ -1,1 +1,1 @@
-// Pictures, passes and levels as definitions, with their laws; `passes`, `wavelet` and `masking` have the code.
+// Pictures, passes and levels as definitions, with their laws; `passes`, `wavelet` and `picture_mask` have the code.

@@ -1,18 +1,19 @@
--- The header of a codestream as it is written and read (document 01, "Truncation and the stream").
+-- The header of a codestream as it is written and read (docs/FORMAT.md, "Header").
 --
---   bytesOf n x       == the n bytes of the number x, highest byte first
---   Field, field n x  == a field of n bytes that holds x
---   laid fs           == the bytes of the fields fs, one after the other
---   Shot              == what a header says of a shot; its rectangles are x, y, width and height of each in turn
---   fixedFields s total == the first nine fields of the header of a stream of `total` bytes, in document 01's order
---   rectangleFields l == the fields of the rectangles behind them
---   header s total    == the header's bytes
---   numbers n l at    == n numbers of two bytes from `at` on
---   shotOf l          == what the header of the stream l says
+--   bytesOf n x         == the n bytes of the number x, highest byte first
+--   Field               == a field: its size in bytes and its value
+--   field n x           == the field of n bytes that holds x
+--   laid fs             == the bytes of the fields fs, one after the other
+--   Shot                == what a header says of a shot; its rectangles are x, y, width and height of each in turn
+--   fixedFields s total == the first nine fields of the header of a stream of `total` bytes, in their order
+--   rectangleFields l   == the fields of the rectangles behind them
+--   header s total      == the header's bytes
+--   numbers n l at      == n numbers of two bytes from `at` on
+--   shotOf l            == what the header of the stream l says
 --
 -- Assumes nothing: these are definitions.
-use Prim.Native.Nat.{ℕ, zero, suc, _+_, _*_, _-_, _/_, _%_}
 use mathlib.Core.List.{List, [], _∷_, _++_}
+use Prim.Native.Nat.{ℕ, zero, suc, _+_, _*_, _-_, _/_, _%_}
 use lib.ListN.{length}
 use Rattle.header.specs.Header.{number}
 

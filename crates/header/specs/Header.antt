@@ -1,4 +1,4 @@
--- The header of a codestream (document 01, "Truncation and the stream"), every number big-endian:
+-- The header of a codestream (docs/FORMAT.md, "Header"), every number big-endian:
 --
 --     bytes  0 to 3        length of all that follows
 --            4             version, 1
@@ -12,17 +12,17 @@
 --           14 to 13 + 8k  x, y, width and height of each rectangle, 2 bytes each
 --           14 + 8k on     the body
 --
---   number n l at  == the number in the n bytes of l from `at` on
---   frontLength l  == 14 + 8k, the length before the body
---   badHeader l    == 12: fewer than 14 bytes, or than 14 + 8k, or a length field other than the total less 4
---   badVersion l   == 13: version not 1
---   bodyTests l    == the refusals of the body's part: 12, 13
---   bodyOf l       == the bytes that carry the body, none under a refusal
+--   number n l at == the number in the n bytes of l from `at` on
+--   frontLength l == 14 + 8k, the length before the body
+--   badHeader l   == 12: fewer than 14 bytes, or than 14 + 8k, or a length field other than the total less 4
+--   badVersion l  == 13: version not 1
+--   bodyTests l   == the refusals of the body's part: 12, 13
+--   bodyOf l      == the bytes that carry the body, none under a refusal
 --
 -- Assumes nothing: these are definitions.
-use Prim.Native.Nat.{ℕ, zero, suc, _+_, _*_}
 use mathlib.Core.Bool.{Bool, not, _||_}
 use mathlib.Core.List.{List, [], _∷_}
+use Prim.Native.Nat.{ℕ, zero, suc, _+_, _*_}
 use lib.Dec.{ltb, eqb}
 use lib.ListN.{length, getD, drop}
 use Rattle.line.specs.Cells.{choose}

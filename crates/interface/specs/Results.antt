@@ -1,4 +1,4 @@
--- The result numbers of a call in the caller's array, which may have any length.
+-- The result numbers of a call in the caller's array, which may have any length (docs/FORMAT.md, "Calls").
 --
 --   GivenAt at vs l l′ == l′ is l with the numbers vs from place `at` on, as far as it reaches
 --   Given vs l l′      == that, from the first place on

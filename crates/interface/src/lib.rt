@@ -4,12 +4,12 @@ ghost use Prim.Native.Nat.{_+_, _^_, _<_};
 ghost use lib.IntN.{pos};
 ghost use lib.ListN.{length, getD};
 ghost use Rattle.line.specs.Cells.{listed};
-ghost use Rattle.marking.specs.Marks.{marked};
+ghost use Rattle.line.specs.Mask.{marked};
 ghost use Rattle.refusal.specs.Numbers.{first, accepted};
 ghost use Rattle.refusal.specs.Results.{Result};
 ghost use Rattle.header.specs.Header.{bodyTests};
 ghost use Rattle.region.specs.Region.{regionByte, regionTests};
-ghost use Rattle.masking.specs.Masks.{maskByte, maskTests};
+ghost use Rattle.picture_mask.specs.Masks.{maskByte, maskTests};
 ghost use Rattle.samples.specs.Samples.{inRange, truncated, showTests, truncateTests};
 ghost use Rattle.wavelet.specs.Wavelet.{coefficient, undoneNumber, transformTests, undoTests};
 ghost use Rattle.codestream.specs.Writing.{shotFor, writeNumbers, maskAfter, streamAfter};
@@ -54,7 +54,7 @@ pub extern "C" fn dhiirqobaal_mask(
     ensures { λ r. ⌜ r ≡ first (maskTests kernel levels w h (now (region .entry)) (length (now (mask .entry)))) ⌝ }
     ensures { λ r. ⌜ Result 0 (accepted (maskTests kernel levels w h (now (region .entry)) (length (now (mask .entry))))) (maskByte kernel levels w h (now (region .entry))) (now (mask .entry)) (now (mask .exit)) ⌝ }
 {
-    let answer = masking::mask(kernel, levels, w, h, region, mask);
+    let answer = picture_mask::mask(kernel, levels, w, h, region, mask);
     refusal::answer_number(answer)
 }
 

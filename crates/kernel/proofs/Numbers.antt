@@ -8,7 +8,7 @@ use borrow.Author.Tests.{le-leb, lt-leb}
 use Rattle.kernel.specs.declared.Kernel.{Kernel}
 use Rattle.kernel.specs.declared.Kernel.the-variants.{S, SPlusP, TT, FiveThree}
 use Rattle.kernel.specs.declared.Choice.the-variants.{Taken, Refused}
-use Rattle.kernel.specs.Kernels.{kernelOf, taken, theKernel}
+use Rattle.kernel.specs.Kernels.{kernelOf, kernelTaken, theKernel}
 
 -- a number past the last has no kernel
 pub past : (n : ℕ) → 4 ≤ n → Refused ≡ kernelOf n
@@ -20,7 +20,7 @@ past (suc (suc (suc (suc n)))) h = refl
 
 -- a number that has a kernel is below 4, and that is its kernel
 pub known : (n : ℕ) (k : Kernel) → kernelOf n ≡ Taken k → (leb 4 n ≡ false) × (theKernel n ≡ k)
-known n k e = (lt-leb 4 n (below n e), ap taken e)
+known n k e = (lt-leb 4 n (below n e), ap kernelTaken e)
   where
     never : {C : Type 0} → Refused ≡ Taken k → C
     never p = let z : _≡_ {A = ℕ} 0 1 = cc in absurd (omega arith)

@@ -1,9 +1,10 @@
--- The kernels of document 01, "One line": which numbers they have, and how far each reaches.
+-- The kernels: which numbers they have, and how far each reaches (docs/FORMAT.md, "Kernels on a line").
 --
 --   S, SPlusP, TT, FiveThree == kernels 0 to 3: S, S+P (A), TT and the 5/3 of T.800
---   kernelOf n == the kernel of number n, or a refusal
---   theKernel n == that kernel, where there is one
---   reach k    == the reach of kernel k, 0, 1, 2 and 1
+--   kernelOf n               == the kernel of number n, or a refusal
+--   kernelTaken c            == the kernel of an answer, where there is one
+--   theKernel n              == the kernel of number n, where there is one
+--   reach k                  == the reach of kernel k, 0, 1, 2 and 1
 --
 -- Assumes nothing: these are definitions.
 use Prim.Native.Nat.{ℕ, zero, suc}
@@ -19,12 +20,12 @@ kernelOf (suc (suc zero)) = Taken TT
 kernelOf (suc (suc (suc zero))) = Taken FiveThree
 kernelOf (suc (suc (suc (suc n)))) = Refused
 
-abbrev pub taken : Choice → Kernel
-taken (Taken k) = k
-taken Refused = S
+abbrev pub kernelTaken : Choice → Kernel
+kernelTaken (Taken k) = k
+kernelTaken Refused = S
 
 abbrev pub theKernel : ℕ → Kernel
-theKernel n = taken (kernelOf n)
+theKernel n = kernelTaken (kernelOf n)
 
 abbrev pub reach : Kernel → ℕ
 reach S = 0

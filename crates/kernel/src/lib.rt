@@ -2,7 +2,7 @@
 ghost use mathlib.Core.Path.{_≡_};
 ghost use Rattle.kernel.specs.Kernels.{kernelOf, reach};
 
-// An enum, so that no value of it is a kernel of another number.
+// Kernels 0 to 3, in their order. An enum, so that no value of it is a kernel of another number.
 pub enum Kernel {
     S,
     SPlusP,

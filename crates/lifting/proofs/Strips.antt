@@ -9,8 +9,8 @@ use lib.IntN.{ℤ}
 use lib.ListN.{length}
 use Rattle.whole.specs.Within.{Within}
 use Rattle.line.specs.Cells.{cell}
+use Rattle.line.specs.Inner.{AllWithin}
 use Rattle.line.proofs.Cells.{by-lt}
-use Rattle.line.specs.Bounds.{AllWithin}
 use Rattle.runs.specs.Cells.{Written}
 use Rattle.lifting.specs.Strip.{lane, Small, Strips, Rows}
 

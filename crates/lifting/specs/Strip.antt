@@ -2,7 +2,7 @@
 --
 --   lane c l j         == line j of the strip
 --   Small r n l        == the first n numbers are within r
---   Strips m c e o     == e and o have room for strips of c lines of m numbers, m above 0 and their count below 2^32
+--   Strips m c e o     == e and o have room for strips of c lines of m cells, m above 0 and their count below 2^32
 --   Rows F c a b l l′  == l′ is the strip l with F n j in line j, for n from a up to b
 --
 -- Assumes nothing: these are definitions.
@@ -20,7 +20,7 @@ lane c l j n = cell l (n * c + j)
 pub record Small (r n : ℕ) (l : List ℤ) : Type 0 where
   pub each : (i : ℕ) → i < n → Within r (cell l i)
 
-pub record Strips (m c : ℕ) (e o : List ℤ) : Type 0 where
+pub record Strips {A : Type 0} (m c : ℕ) (e o : List A) : Type 0 where
   pub some : 0 < m
   pub few : m < 2 ^ 32
   pub small : m * c < 2 ^ 32

@@ -3,13 +3,14 @@ use mathlib.Core.Path.{_≡_, ap₂, _∙_}
 use Prim.Native.Nat.{ℕ, _+_, _*_, _/_, _%_}
 use native.Mathlib.Omega.{arith}
 use lib.IntN.{ℤ, _+ℤ_, _-ℤ_}
-use Rattle.kernel.specs.declared.Kernel.{Kernel}
-use Rattle.kernel.specs.declared.Kernel.the-variants.{S, SPlusP, TT, FiveThree}
 use Rattle.whole.proofs.Linear.{lin, ι-split}
 use Rattle.whole.proofs.Floored.{whole}
-use Rattle.line.specs.Cells.{Line, Agree, evens, odds, behind, joined, paired}
+use Rattle.kernel.specs.declared.Kernel.{Kernel}
+use Rattle.kernel.specs.declared.Kernel.the-variants.{S, SPlusP, TT, FiveThree}
+use Rattle.line.specs.Inner.{Agree}
+use Rattle.line.specs.Cells.{Line, evens, odds, behind, joined, paired}
 use Rattle.line.specs.Formulas.{mean, difference, firstOf, secondOf}
-use Rattle.line.specs.Transform.{means, differences, predict, update, pairHigh, high, low, pairDifference, pairFirst, pairSecond, first, second, forward, back}
+use Rattle.line.specs.Transform.{means, differences, predict, update, pairHigh, high, low, pairDifference, pairFirst, pairSecond, undoneEvens, undoneOdds, forward, back}
 use Rattle.line.proofs.Cells.{joined-each, joined-low, joined-high, paired-each, paired-even, paired-odd}
 use Rattle.line.proofs.Local.{predict-reach, update-local}
 
@@ -55,21 +56,21 @@ module _ (M : ℕ) (X L D : Line ℤ) where
   pair-second : (k : Kernel) → Agree M L (means X) → Agree M D (pairHigh k M X) → Agree M (pairSecond k M L D) (odds X)
   pair-second k a b n h = ap₂ secondOf (a n h) (pair-difference k a b n h) ∙ second-again (X (2 * n)) (X (2 * n + 1))
 
-  pub first-of : (k : Kernel) → Agree M L (low k M X) → Agree M D (high k M X) → Agree M (first k M L D) (evens X)
-  unfolding first low high
+  pub first-of : (k : Kernel) → Agree M L (low k M X) → Agree M D (high k M X) → Agree M (undoneEvens k M L D) (evens X)
+  unfolding undoneEvens low high
   first-of S a b = pair-first S a b
   first-of SPlusP a b = pair-first SPlusP a b
   first-of TT a b = pair-first TT a b
   first-of FiveThree a b = λ n h.
       ap₂ _-ℤ_ (a n h) (update-local M n D (high FiveThree M X) h b) ∙ add-sub (X (2 * n)) (update M (high FiveThree M X) n)
 
-  pub second-of : (k : Kernel) → Agree M L (low k M X) → Agree M D (high k M X) → Agree M (second k M L D) (odds X)
-  unfolding second low high
+  pub second-of : (k : Kernel) → Agree M L (low k M X) → Agree M D (high k M X) → Agree M (undoneOdds k M L D) (odds X)
+  unfolding undoneOdds low high
   second-of S a b = pair-second S a b
   second-of SPlusP a b = pair-second SPlusP a b
   second-of TT a b = pair-second TT a b
   second-of FiveThree a b = λ n h.
-      ap₂ _+ℤ_ (b n h) (predict-reach FiveThree M n (first FiveThree M L D) (evens X) h (λ i lt p q. first-of FiveThree a b i lt))
+      ap₂ _+ℤ_ (b n h) (predict-reach FiveThree M n (undoneEvens FiveThree M L D) (evens X) h (λ i lt p q. first-of FiveThree a b i lt))
       ∙ sub-add (X (2 * n + 1)) (predict FiveThree M (evens X) n)
 
 -- ---- forward after back: X is what L and D give
@@ -83,17 +84,17 @@ module _ (M : ℕ) (X L D : Line ℤ) where
       (predict-reach k M n (means X) L h (λ i lt p q. pair-low k a b i lt))
       ∙ add-sub (D n) (predict k M L n)
 
-  pub high-of : (k : Kernel) → Agree M (evens X) (first k M L D) → Agree M (odds X) (second k M L D) → Agree M (high k M X) D
-  unfolding first second high
+  pub high-of : (k : Kernel) → Agree M (evens X) (undoneEvens k M L D) → Agree M (odds X) (undoneOdds k M L D) → Agree M (high k M X) D
+  unfolding undoneEvens undoneOdds high
   high-of S a b = pair-high S a b
   high-of SPlusP a b = pair-high SPlusP a b
   high-of TT a b = pair-high TT a b
   high-of FiveThree a b = λ n h.
-      ap₂ _-ℤ_ (b n h) (predict-reach FiveThree M n (evens X) (first FiveThree M L D) h (λ i lt p q. a i lt))
-      ∙ add-sub (D n) (predict FiveThree M (first FiveThree M L D) n)
+      ap₂ _-ℤ_ (b n h) (predict-reach FiveThree M n (evens X) (undoneEvens FiveThree M L D) h (λ i lt p q. a i lt))
+      ∙ add-sub (D n) (predict FiveThree M (undoneEvens FiveThree M L D) n)
 
-  pub low-of : (k : Kernel) → Agree M (evens X) (first k M L D) → Agree M (odds X) (second k M L D) → Agree M (low k M X) L
-  unfolding first second low
+  pub low-of : (k : Kernel) → Agree M (evens X) (undoneEvens k M L D) → Agree M (odds X) (undoneOdds k M L D) → Agree M (low k M X) L
+  unfolding undoneEvens undoneOdds low
   low-of S a b = pair-low S a b
   low-of SPlusP a b = pair-low SPlusP a b
   low-of TT a b = pair-low TT a b
@@ -116,7 +117,7 @@ module _ (k : Kernel) (w : ℕ) (even : w % 2 ≡ 0) where
   forward-back Y =
       let m = w / 2 in
       let D = behind m Y in
-      let X = paired (first k m Y D) (second k m Y D) in
-      let a : Agree m (evens X) (first k m Y D) = λ n h. paired-even (first k m Y D) (second k m Y D) n in
-      let b : Agree m (odds X) (second k m Y D) = λ n h. paired-odd (first k m Y D) (second k m Y D) n in
+      let X = paired (undoneEvens k m Y D) (undoneOdds k m Y D) in
+      let a : Agree m (evens X) (undoneEvens k m Y D) = λ n h. paired-even (undoneEvens k m Y D) (undoneOdds k m Y D) n in
+      let b : Agree m (odds X) (undoneOdds k m Y D) = λ n h. paired-odd (undoneEvens k m Y D) (undoneOdds k m Y D) n in
       joined-each (λ x v. v ≡ Y x) w _ _ even (low-of m X Y D k a b) (high-of m X Y D k a b)

@@ -4,15 +4,15 @@ use mathlib.Core.Path.{_≡_}
 use Prim.Native.Nat.{ℕ, _+_, _*_, _/_, _%_, _≤_}
 use native.Mathlib.Omega.{arith}
 use lib.IntN.{ℤ, _+ℤ_, _-ℤ_}
-use Rattle.kernel.specs.declared.Kernel.{Kernel}
-use Rattle.kernel.specs.declared.Kernel.the-variants.{S, SPlusP, TT, FiveThree}
 use Rattle.whole.specs.Within.{Within}
 use Rattle.whole.proofs.Linear.{lin, ι-split}
 use Rattle.whole.proofs.Floored.{whole}
+use Rattle.kernel.specs.declared.Kernel.{Kernel}
+use Rattle.kernel.specs.declared.Kernel.the-variants.{S, SPlusP, TT, FiveThree}
 use Rattle.line.specs.Cells.{Line, evens, behind}
-use Rattle.line.specs.Bounds.{AllWithin}
+use Rattle.line.specs.Inner.{AllWithin}
 use Rattle.line.specs.Formulas.{mean, difference, firstOf, secondOf, slopeA, slopeTT, between, smoothing}
-use Rattle.line.specs.Transform.{means, differences, predict, update, pairHigh, high, low, pairDifference, first, second, back}
+use Rattle.line.specs.Transform.{means, differences, predict, update, pairHigh, high, low, pairDifference, undoneEvens, undoneOdds, back}
 use Rattle.line.proofs.Cells.{paired-each}
 use Rattle.line.proofs.Border.{inside-in}
 
@@ -102,24 +102,24 @@ module _ (M a b : ℕ) (L D : Line ℤ) (lows : AllWithin a M L) (highs : AllWit
   pub pair-difference-within : (k : Kernel) → AllWithin (a + b + 1) M (pairDifference k M L D)
   pair-difference-within k n h = within-more (add-within b (a + 1) _ _ (highs n h) (predict-within k M a L lows n h)) (omega arith)
 
-  five-three-first : AllWithin (a + (b + 1) / 2) M (first FiveThree M L D)
-  unfolding first
+  five-three-first : AllWithin (a + (b + 1) / 2) M (undoneEvens FiveThree M L D)
+  unfolding undoneEvens
   five-three-first n h = sub-within a _ _ _ (lows n h) (update-within M b D highs n h)
 
-  pub first-bound : (k : Kernel) → AllWithin (3 * (a + b) / 2 + 2) M (first k M L D)
-  unfolding first
+  pub first-bound : (k : Kernel) → AllWithin (3 * (a + b) / 2 + 2) M (undoneEvens k M L D)
+  unfolding undoneEvens
   first-bound S n h = within-more (first-within a _ _ _ (lows n h) (pair-difference-within S n h)) (omega arith)
   first-bound SPlusP n h = within-more (first-within a _ _ _ (lows n h) (pair-difference-within SPlusP n h)) (omega arith)
   first-bound TT n h = within-more (first-within a _ _ _ (lows n h) (pair-difference-within TT n h)) (omega arith)
   first-bound FiveThree n h = within-more (five-three-first n h) (omega arith)
 
-  pub second-bound : (k : Kernel) → AllWithin (3 * (a + b) / 2 + 2) M (second k M L D)
-  unfolding second
+  pub second-bound : (k : Kernel) → AllWithin (3 * (a + b) / 2 + 2) M (undoneOdds k M L D)
+  unfolding undoneOdds
   second-bound S n h = within-more (second-within a _ _ _ (lows n h) (pair-difference-within S n h)) (omega arith)
   second-bound SPlusP n h = within-more (second-within a _ _ _ (lows n h) (pair-difference-within SPlusP n h)) (omega arith)
   second-bound TT n h = within-more (second-within a _ _ _ (lows n h) (pair-difference-within TT n h)) (omega arith)
   second-bound FiveThree n h =
-      within-more (add-within b _ _ _ (highs n h) (predict-within FiveThree M _ (first FiveThree M L D) five-three-first n h)) (omega arith)
+      within-more (add-within b _ _ _ (highs n h) (predict-within FiveThree M _ (undoneEvens FiveThree M L D) five-three-first n h)) (omega arith)
 
 -- ---- a line of w numbers
 pub back-within : (k : Kernel) (w a b : ℕ) (Y : Line ℤ) → w % 2 ≡ 0 → AllWithin a (w / 2) Y → AllWithin b (w / 2) (behind (w / 2) Y) → AllWithin (3 * (a + b) / 2 + 2) w (back k w Y)

@@ -8,9 +8,10 @@ use lib.IntN.{ℤ, _+ℤ_, _-ℤ_}
 use Rattle.kernel.specs.declared.Kernel.{Kernel}
 use Rattle.kernel.specs.declared.Kernel.the-variants.{S, SPlusP, TT, FiveThree}
 use Rattle.kernel.specs.Kernels.{reach}
-use Rattle.line.specs.Cells.{Line, AgreeOn, behind, paired}
+use Rattle.line.specs.Inner.{AgreeOn}
+use Rattle.line.specs.Cells.{Line, behind, paired}
 use Rattle.line.specs.Formulas.{firstOf, secondOf, between, smoothing}
-use Rattle.line.specs.Transform.{inside, predict, update, pairDifference, pairFirst, pairSecond, first, second, back}
+use Rattle.line.specs.Transform.{inside, predict, update, pairDifference, pairFirst, pairSecond, undoneEvens, undoneOdds, back}
 use Rattle.line.specs.Mask.{mark, pairMark, reachMark, lowMark, highMark, maskLine}
 use Rattle.line.proofs.Cells.{by-lt, joined-low, joined-high, paired-each, paired-even, paired-odd}
 use Rattle.line.proofs.Border.{before-one, after-one}
@@ -48,11 +49,11 @@ module _ (M : ℕ) (B : Line Bool) (L D L′ D′ : Line ℤ) where
         (λ lt. b (n - 1) (omega arith) (or-right (B (2 * (n - 1) + 1) || lowMark FiveThree M B (n - 1)) _ (mark-there M (lowMark FiveThree M B) (n - 1 + 1) 0 n (omega arith) h t)))
         (λ ge. let e : n - 1 ≡ n = omega arith in rw e (high-here n h t)))
 
-    even-again : (n : ℕ) → n < M → lowMark FiveThree M B n ≡ true → first FiveThree M L D n ≡ first FiveThree M L′ D′ n
-    unfolding first update
+    even-again : (n : ℕ) → n < M → lowMark FiveThree M B n ≡ true → undoneEvens FiveThree M L D n ≡ undoneEvens FiveThree M L′ D′ n
+    unfolding undoneEvens update
     even-again n h t = ap₂ _-ℤ_ (a n h t) (ap₂ smoothing (high-before n h t) (high-here n h t))
 
-    even-first : (n : ℕ) → n < M → B (2 * n) ≡ true → first FiveThree M L D n ≡ first FiveThree M L′ D′ n
+    even-first : (n : ℕ) → n < M → B (2 * n) ≡ true → undoneEvens FiveThree M L D n ≡ undoneEvens FiveThree M L′ D′ n
     unfolding lowMark
     even-first n h t = even-again n h (or-left _ (mark (2 * M) B (2 * n) 1) (or-left _ (B (2 * n + 1)) t))
 
@@ -65,27 +66,27 @@ module _ (M : ℕ) (B : Line Bool) (L D L′ D′ : Line ℤ) where
     unfolding lowMark
     next-low n h t = or-right (B (2 * (n + 1)) || B (2 * (n + 1) + 1)) _ (mark-there (2 * M) B (2 * (n + 1)) 1 (2 * n + 1) (omega arith) (omega arith) t)
 
-    even-after : (n : ℕ) → n < M → B (2 * n + 1) ≡ true → first FiveThree M L D (inside M (n + 1) 0) ≡ first FiveThree M L′ D′ (inside M (n + 1) 0)
+    even-after : (n : ℕ) → n < M → B (2 * n + 1) ≡ true → undoneEvens FiveThree M L D (inside M (n + 1) 0) ≡ undoneEvens FiveThree M L′ D′ (inside M (n + 1) 0)
     even-after n h t = rw (after-one M n h) (by-lt (n + 1) M
         (λ lt. let e : min (n + 1) (M - 1) ≡ n + 1 = omega arith in rw e (even-again (n + 1) lt (next-low n lt t)))
         (λ ge. let e : min (n + 1) (M - 1) ≡ n = omega arith in rw e (even-again n h (own-low n t))))
 
-    odd-second : (n : ℕ) → n < M → B (2 * n + 1) ≡ true → second FiveThree M L D n ≡ second FiveThree M L′ D′ n
-    unfolding second predict highMark
+    odd-second : (n : ℕ) → n < M → B (2 * n + 1) ≡ true → undoneOdds FiveThree M L D n ≡ undoneOdds FiveThree M L′ D′ n
+    unfolding undoneOdds predict highMark
     odd-second n h t =
         ap₂ _+ℤ_ (b n h (or-left _ (mark M (lowMark FiveThree M B) (n + 1) 0) (or-left _ (lowMark FiveThree M B n) t)))
         (ap₂ between (even-again n h (own-low n t)) (even-after n h t))
 
   -- ---- every kernel
-  pub first-covered : (k : Kernel) → AgreeOn M (lowMark k M B) L L′ → AgreeOn M (highMark k M B) D D′ → (n : ℕ) → n < M → B (2 * n) ≡ true → first k M L D n ≡ first k M L′ D′ n
-  unfolding first lowMark highMark
+  pub first-covered : (k : Kernel) → AgreeOn M (lowMark k M B) L L′ → AgreeOn M (highMark k M B) D D′ → (n : ℕ) → n < M → B (2 * n) ≡ true → undoneEvens k M L D n ≡ undoneEvens k M L′ D′ n
+  unfolding undoneEvens lowMark highMark
   first-covered S a b = pair-first S a b
   first-covered SPlusP a b = pair-first SPlusP a b
   first-covered TT a b = pair-first TT a b
   first-covered FiveThree a b = even-first a b
 
-  pub second-covered : (k : Kernel) → AgreeOn M (lowMark k M B) L L′ → AgreeOn M (highMark k M B) D D′ → (n : ℕ) → n < M → B (2 * n + 1) ≡ true → second k M L D n ≡ second k M L′ D′ n
-  unfolding second lowMark highMark
+  pub second-covered : (k : Kernel) → AgreeOn M (lowMark k M B) L L′ → AgreeOn M (highMark k M B) D D′ → (n : ℕ) → n < M → B (2 * n + 1) ≡ true → undoneOdds k M L D n ≡ undoneOdds k M L′ D′ n
+  unfolding undoneOdds lowMark highMark
   second-covered S a b = pair-second S a b
   second-covered SPlusP a b = pair-second SPlusP a b
   second-covered TT a b = pair-second TT a b
@@ -95,8 +96,8 @@ pub covered : (k : Kernel) (w : ℕ) (B : Line Bool) (Y Y′ : Line ℤ) → w %
 unfolding maskLine back
 covered k w B Y Y′ even a =
     let m = w / 2 in
-    let E = first k m Y (behind m Y) in let O = second k m Y (behind m Y) in
-    let E′ = first k m Y′ (behind m Y′) in let O′ = second k m Y′ (behind m Y′) in
+    let E = undoneEvens k m Y (behind m Y) in let O = undoneOdds k m Y (behind m Y) in
+    let E′ = undoneEvens k m Y′ (behind m Y′) in let O′ = undoneOdds k m Y′ (behind m Y′) in
     let lows : AgreeOn m (lowMark k m B) Y Y′ = λ n h t. a n (omega arith) (joined-low m (lowMark k m B) (highMark k m B) n h ∙ t) in
     let highs : AgreeOn m (highMark k m B) (behind m Y) (behind m Y′) = λ n h t. a (m + n) (omega arith) (joined-high m (lowMark k m B) (highMark k m B) n ∙ t) in
     paired-each (λ x v. B x ≡ true → v ≡ paired E′ O′ x) w E O even

@@ -6,9 +6,10 @@ use lib.IntN.{ℤ, _+ℤ_, _-ℤ_}
 use Rattle.kernel.specs.declared.Kernel.{Kernel}
 use Rattle.kernel.specs.declared.Kernel.the-variants.{S, SPlusP, TT, FiveThree}
 use Rattle.kernel.specs.Kernels.{reach}
-use Rattle.line.specs.Cells.{Line, Agree, evens, behind, joined, paired}
+use Rattle.line.specs.Inner.{Agree}
+use Rattle.line.specs.Cells.{Line, evens, behind, joined, paired}
 use Rattle.line.specs.Formulas.{mean, difference, firstOf, secondOf, slopeA, between, smoothing}
-use Rattle.line.specs.Transform.{inside, means, predict, update, pairHigh, high, low, pairFirst, pairSecond, first, second, forward, back}
+use Rattle.line.specs.Transform.{inside, means, predict, update, pairHigh, high, low, pairFirst, pairSecond, undoneEvens, undoneOdds, forward, back}
 use Rattle.line.proofs.Cells.{joined-each, joined-low, joined-high, paired-each, paired-even, paired-odd}
 use Rattle.line.proofs.Border.{inside-in, before-near, after-near}
 
@@ -70,20 +71,20 @@ module _ (M : ℕ) (L D L′ D′ : Line ℤ) (a : Agree M L L′) (b : Agree M 
   second-pair : (k : Kernel) (n : ℕ) → n < M → pairSecond k M L D n ≡ pairSecond k M L′ D′ n
   second-pair k n h = ap₂ secondOf (a n h) (difference-pair k n h)
 
-  pub first-local : (k : Kernel) → Agree M (first k M L D) (first k M L′ D′)
-  unfolding first
+  pub first-local : (k : Kernel) → Agree M (undoneEvens k M L D) (undoneEvens k M L′ D′)
+  unfolding undoneEvens
   first-local S n h = first-pair S n h
   first-local SPlusP n h = first-pair SPlusP n h
   first-local TT n h = first-pair TT n h
   first-local FiveThree n h = ap₂ _-ℤ_ (a n h) (update-local M n D D′ h b)
 
-  pub second-local : (k : Kernel) → Agree M (second k M L D) (second k M L′ D′)
-  unfolding second
+  pub second-local : (k : Kernel) → Agree M (undoneOdds k M L D) (undoneOdds k M L′ D′)
+  unfolding undoneOdds
   second-local S n h = second-pair S n h
   second-local SPlusP n h = second-pair SPlusP n h
   second-local TT n h = second-pair TT n h
   second-local FiveThree n h =
-      ap₂ _+ℤ_ (b n h) (predict-reach FiveThree M n (first FiveThree M L D) (first FiveThree M L′ D′) h (λ i lt p q. first-local FiveThree i lt))
+      ap₂ _+ℤ_ (b n h) (predict-reach FiveThree M n (undoneEvens FiveThree M L D) (undoneEvens FiveThree M L′ D′) h (λ i lt p q. first-local FiveThree i lt))
 
 -- ---- a line of w numbers
 joined-agree : {A : Type 0} (w : ℕ) (L D L′ D′ : Line A) → w % 2 ≡ 0 → Agree (w / 2) L L′ → Agree (w / 2) D D′ → Agree w (joined (w / 2) L D) (joined (w / 2) L′ D′)

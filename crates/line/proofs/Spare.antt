@@ -10,7 +10,7 @@ use Rattle.whole.proofs.Linear.{ι-split}
 use Rattle.whole.proofs.Floored.{whole}
 use Rattle.line.specs.Cells.{Line, behind}
 use Rattle.line.specs.Formulas.{firstOf, secondOf}
-use Rattle.line.specs.Transform.{first, second, back}
+use Rattle.line.specs.Transform.{undoneEvens, undoneOdds, back}
 use Rattle.line.specs.Mask.{pairMark, lowMark, highMark}
 use Rattle.line.proofs.Cells.{paired-even, paired-odd}
 use Rattle.line.proofs.Back.{add-none}
@@ -33,12 +33,12 @@ module _ (m d e : ℤ) where
 -- ---- a pair of a line, from its low and its high
 module _ (w : ℕ) (Y : Line ℤ) (n : ℕ) where
   pub back-first : back S w Y (2 * n) ≡ firstOf (Y n) (behind (w / 2) Y n)
-  unfolding back first
-  back-first = paired-even (first S (w / 2) Y (behind (w / 2) Y)) _ n ∙ ap (firstOf (Y n)) (add-none (w / 2) Y n (behind (w / 2) Y n))
+  unfolding back undoneEvens
+  back-first = paired-even (undoneEvens S (w / 2) Y (behind (w / 2) Y)) _ n ∙ ap (firstOf (Y n)) (add-none (w / 2) Y n (behind (w / 2) Y n))
 
   pub back-second : back S w Y (2 * n + 1) ≡ secondOf (Y n) (behind (w / 2) Y n)
-  unfolding back second
-  back-second = paired-odd (first S (w / 2) Y (behind (w / 2) Y)) _ n ∙ ap (secondOf (Y n)) (add-none (w / 2) Y n (behind (w / 2) Y n))
+  unfolding back undoneOdds
+  back-second = paired-odd (undoneEvens S (w / 2) Y (behind (w / 2) Y)) _ n ∙ ap (secondOf (Y n)) (add-none (w / 2) Y n (behind (w / 2) Y n))
 
 module _ (w : ℕ) (Y Y′ : Line ℤ) (n : ℕ) where
   -- the low and the high of the pair as they were

@@ -1,22 +1,20 @@
--- Lines: cells by their place.
+-- Lines: cells by their place (docs/FORMAT.md, "Kernels on a line").
 --
---   Line A          == a line of cells of A; a rule says how many of them count
---   choose b x y    == x if b, else y
---   Agree n X Y     == the first n cells of X and Y are equal
---   AgreeOn n B X Y == those of them that B marks are equal
---   joined m L D    == L in front, m cells of it, and D behind
---   behind m X      == the cells of X from m on
---   evens X, odds X == X(2n) and X(2n+1), as lines
---   paired E O      == the line with these evens and odds
---   cell l          == the numbers of a buffer as a line, 0 past its end
---   count n B       == how many of the first n cells B marks
---   listed n X      == the first n cells of X as a list
+--   Line A       == a line of cells of A; a rule says how many of them count
+--   choose b x y == x if b, else y
+--   joined m L D == L in front, m cells of it, and D behind
+--   behind m X   == the cells of X from m on
+--   evens X      == X(0), X(2), .., as a line
+--   odds X       == X(1), X(3), .., as a line
+--   paired E O   == the line with these evens and odds
+--   cell l       == the numbers of a buffer as a line, 0 past its end
+--   count n B    == how many of the first n cells B marks
+--   listed n X   == the first n cells of X as a list
 --
 -- Assumes nothing: these are definitions.
-use mathlib.Core.Path.{_≡_}
 use mathlib.Core.Bool.{Bool, true, false}
 use mathlib.Core.List.{List, [], _∷_}
-use Prim.Native.Nat.{ℕ, zero, suc, _+_, _*_, _-_, _/_, _%_, _<_}
+use Prim.Native.Nat.{ℕ, zero, suc, _+_, _*_, _-_, _/_, _%_}
 use lib.Dec.{ltb, eqb}
 use lib.IntN.{ℤ, pos}
 use lib.ListN.{getD}
@@ -27,12 +25,6 @@ Line A = ℕ → A
 abbrev pub choose : {A : Type 0} → Bool → A → A → A
 choose true x y = x
 choose false x y = y
-
-abbrev pub Agree : {A : Type 0} → ℕ → Line A → Line A → Type 0
-Agree n X Y = (i : ℕ) → i < n → X i ≡ Y i
-
-abbrev pub AgreeOn : {A : Type 0} → ℕ → Line Bool → Line A → Line A → Type 0
-AgreeOn n B X Y = (i : ℕ) → i < n → B i ≡ true → X i ≡ Y i
 
 unfoldable pub joined : {A : Type 0} → ℕ → Line A → Line A → Line A
 joined m L D x = choose (ltb x m) (L x) (D (x - m))

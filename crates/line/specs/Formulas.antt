@@ -1,10 +1,13 @@
--- The formulas of document 01, "One line", over the single numbers that each is computed from.
+-- The formulas of the kernels, over the single numbers that each is computed from (docs/FORMAT.md, "Kernels on a line").
 --
---   mean a b, difference a b   == S's L(n) and H(n), of the pair X(2n) and X(2n+1)
---   firstOf m d, secondOf m d  == S's way back: the pair from its mean m and its difference d
---   slopeA, slopeTT            == what kernels 1 and 2 take off H(n), from the lows at n − 2, n − 1, n + 1 and n + 2
---   between                    == what kernel 3 takes off X(2n+1), from X(2n) and X(2n+2)
---   smoothing                  == what kernel 3 adds to X(2n), from d(n−1) and d(n)
+--   mean a b              == kernel 0's L(n), of the pair X(2n) and X(2n+1)
+--   difference a b        == kernel 0's h(n), of that pair
+--   firstOf m d           == kernel 0's way back: X(2n), from the low m and the high d
+--   secondOf m d          == X(2n+1)
+--   slopeA before after   == what kernel 1 takes off, from L(n−1) and L(n+1)
+--   slopeTT before2 before after after2 == what kernel 2 takes off, from L(n−2), L(n−1), L(n+1) and L(n+2)
+--   between here after    == what kernel 3 takes off X(2n+1), from X(2n) and X(2n+2)
+--   smoothing before here == what kernel 3 adds to X(2n), from h(n−1) and h(n)
 --
 -- Assumes nothing: these are definitions.
 use lib.IntN.{ℤ, pos, negℤ, _+ℤ_, _-ℤ_, _*ℤ_}

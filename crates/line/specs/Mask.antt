@@ -1,21 +1,31 @@
--- The mask of a line of 2M marks (document 01, "The mask").
+-- The mask of a line of 2M marks (docs/FORMAT.md, "Region and mask").
 --
---   anyBelow M f     == f holds of a number below M
---   near r n k       == k is within the reach r of n
---   mark N B u d     == B's mark at the index u − d; what is missing, outside 0 .. N − 1, counts as unmarked
---   pairMark B n     == P(n): X(2n) or X(2n+1) is marked
---   lowMark k M B    == which lows are marked
---   highMark k M B   == which highs are marked
---   maskLine k w B   == the marks of a transformed line of w numbers: of its lows in front, of its highs behind
+--   marked b          == the mark that a byte is
+--   byteOf m          == the byte of a mark: 1 for marked, 0 for unmarked
+--   anyBelow M f      == f holds of a number below M
+--   near r n k        == k is within the reach r of n
+--   mark N B u d      == B's mark at the index u − d; what is missing, outside 0 .. N − 1, counts as unmarked
+--   pairMark B n      == P(n): X(2n) or X(2n+1) is marked
+--   reachMark r M B n == any P(k) with k within the reach r of n is marked
+--   lowMark k M B     == which lows are marked
+--   highMark k M B    == which highs are marked
+--   maskLine k w B    == the marks of a transformed line of w numbers: of its lows in front, of its highs behind
 --
 -- Assumes nothing: these are definitions.
-use mathlib.Core.Bool.{Bool, false, _&&_, _||_}
+use mathlib.Core.Bool.{Bool, true, false, _&&_, _||_}
 use Prim.Native.Nat.{ℕ, zero, suc, _+_, _-_, _*_, _/_}
-use lib.Dec.{leb, ltb}
+use lib.Dec.{leb, ltb, eqb}
 use Rattle.kernel.specs.declared.Kernel.{Kernel}
 use Rattle.kernel.specs.declared.Kernel.the-variants.{S, SPlusP, TT, FiveThree}
 use Rattle.kernel.specs.Kernels.{reach}
 use Rattle.line.specs.Cells.{Line, joined}
+
+abbrev pub marked : ℕ → Bool
+marked b = eqb b 1
+
+abbrev pub byteOf : Bool → ℕ
+byteOf true = 1
+byteOf false = 0
 
 unfoldable pub anyBelow : ℕ → (ℕ → Bool) → Bool
 anyBelow zero f = false

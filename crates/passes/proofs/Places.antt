@@ -1,5 +1,6 @@
 -- The places of a line's evens, odds, lows and highs. Assumes nothing.
 use mathlib.Core.Path.{_≡_, sym, ap, _∙_}
+use mathlib.Core.Bool.{Bool, true, false}
 use mathlib.Core.List.{List}
 use Prim.Native.Nat.{ℕ, _+_, _*_, _<_, _≤_}
 use native.Mathlib.Nat.{mul-assoc, mul-comm, add-mul, one-mul}
@@ -7,6 +8,7 @@ use native.Mathlib.Omega.{arith}
 use lib.ListN.{length}
 use Rattle.grid.specs.Buffer.{InBuffer}
 use Rattle.grid.proofs.Passes.{row-of}
+use Rattle.passes.specs.Passes.{partStep, partAt}
 
 module _ (s t n j : ℕ) where
   pub even-place : s + n * (2 * t) + j ≡ s + 2 * n * t + j
@@ -34,6 +36,15 @@ module _ {A : Type 0} {l : List A} {s t m c : ℕ} (i : InBuffer l s t (2 * m) c
 
   pub in-highs : InBuffer l (s + m * t) t m c
   in-highs = record { some = i .some; apart = i .apart; place = λ n j h k. rw (high-place s t n j m) (i .place (m + n) j (omega arith) k) }
+
+  -- either way
+  pub part-in : (p : Bool) → InBuffer l s (partStep p t) m c
+  part-in true = in-evens
+  part-in false = in-lows
+
+  pub second-in : (p : Bool) → InBuffer l (s + partAt p t m) (partStep p t) m c
+  second-in true = in-odds
+  second-in false = in-highs
 
 -- in a buffer as long
 pub in-same : {A : Type 0} {l : List A} {s t m c : ℕ} (l′ : List A) → InBuffer l s t m c → length l′ ≡ length l → InBuffer l′ s t m c

@@ -8,16 +8,17 @@ use native.Mathlib.Omega.{arith}
 use lib.IntN.{ℤ, pos}
 use lib.ListN.{length, getD}
 use Rattle.kernel.specs.declared.Kernel.{Kernel}
-use Rattle.line.specs.Cells.{Line, Agree}
+use Rattle.line.specs.Inner.{Agree}
+use Rattle.line.specs.Cells.{Line}
 use Rattle.line.proofs.Local.{forward-local, back-local}
-use Rattle.lifting.specs.Strip.{Strips}
-use Rattle.grid.specs.Picture.{Picture, Transform, turned}
-use Rattle.grid.specs.Buffer.{picture, strided, InBuffer}
+use Rattle.grid.specs.Picture.{Picture, Transform, turned, picture}
+use Rattle.grid.specs.Buffer.{strided, InBuffer}
 use Rattle.grid.proofs.Passes.{Local, cell, pass-past}
 use Rattle.grid.proofs.Running.{RowsPassed, ColsPassed, row-places, col-places}
-use Rattle.passes.specs.Passes.{lineOf, Takes, Area}
+use Rattle.lifting.specs.Strip.{Strips}
+use Rattle.passes.specs.Passes.{lineTransform, Takes, Area}
 
-pub line-local : (undo : Bool) (k : Kernel) → Local (lineOf undo k)
+pub line-local : (undo : Bool) (k : Kernel) → Local (lineTransform undo k)
 line-local false k = λ w X Y even a. forward-local k w X Y even a
 line-local true k = λ w X Y even a. back-local k w X Y even a
 

@@ -1,64 +1,53 @@
 // Row and column passes over a plane, forward and back, on strips of lines.
 ghost use mathlib.Core.Path.{_≡_};
-ghost use Prim.Native.Nat.{ℕ, _+_, _*_, _<_, min};
+ghost use Prim.Native.Nat.{ℕ, _+_, _*_, _^_, _<_, min};
 ghost use lib.IntN.{pos};
 ghost use Rattle.lifting.specs.Strip.{Strips};
-ghost use Rattle.grid.specs.Picture.{rowPass, colPass, turned};
-ghost use Rattle.grid.specs.Buffer.{picture, strided, InBuffer, Lines};
-ghost use Rattle.passes.specs.Passes.{lineOf, Takes, Area};
+ghost use Rattle.grid.specs.Picture.{rowPass, colPass, turned, picture};
+ghost use Rattle.grid.specs.Buffer.{strided, InBuffer, Lines};
+ghost use Rattle.passes.specs.Passes.{lineTransform, Takes, Area, partStep, partAt, Liftable, LiftedStrips};
 ghost use mathlib.Core.Bool.{true, false};
 use kernel::Kernel;
 
 // How many columns a strip has at most: a row of it is what a cache line holds.
 pub const LANES: usize = 16;
 
-// Transforms, in place, `lanes` lines of 2m numbers, the first number of line j at start + j, the others of it step apart.
-fn lines_forward(
-    kernel: Kernel,
-    buf: &mut [i32],
-    a: &mut [i32],
-    b: &mut [i32],
-    start: usize,
-    step: usize,
-    m: usize,
-    lanes: usize,
-)
-    requires { ⌜ InBuffer (now buf) start step (2 * m) lanes ⌝ }
-    requires { ⌜ Strips m lanes (now a) (now b) ⌝ }
-    requires { ⌜ ((j : ℕ) → j < lanes → Takes false (2 * m) (strided (pos 0) (now buf) (start + j) step)) ⌝ }
-    ensures { λ _. ⌜ Lines (lineOf false kernel) (pos 0) start step (2 * m) lanes (now (buf .entry)) (now (buf .exit)) ⌝ }
+// Of a line whose numbers lie `step` apart: how far apart the numbers of one of its parts lie. Evens and odds are interleaved; lows and
+// highs are not.
+fn part_step(interleaved: bool, step: usize) -> usize
+    requires { ⌜ 2 * step < 2 ^ 64 ⌝ }
+    ensures { λ r. ⌜ r ≡ partStep interleaved step ⌝ }
 {
-    transfer::numbers::take(buf, a, start, 2 * step, m, lanes);
-    transfer::numbers::take(buf, b, start + step, 2 * step, m, lanes);
-    lifting::forward(kernel, a, b, m, lanes);
-    transfer::numbers::put(a, buf, start, step, m, lanes);
-    transfer::numbers::put(b, buf, start + m * step, step, m, lanes);
+    if interleaved { 2 * step } else { step }
 }
 
-// The way back.
-fn lines_back(
-    kernel: Kernel,
-    buf: &mut [i32],
-    a: &mut [i32],
-    b: &mut [i32],
-    start: usize,
-    step: usize,
-    m: usize,
-    lanes: usize,
-)
-    requires { ⌜ InBuffer (now buf) start step (2 * m) lanes ⌝ }
-    requires { ⌜ Strips m lanes (now a) (now b) ⌝ }
-    requires { ⌜ ((j : ℕ) → j < lanes → Takes true (2 * m) (strided (pos 0) (now buf) (start + j) step)) ⌝ }
-    ensures { λ _. ⌜ Lines (lineOf true kernel) (pos 0) start step (2 * m) lanes (now (buf .entry)) (now (buf .exit)) ⌝ }
+// Where its second part begins, the odds or the highs.
+fn second_part(interleaved: bool, start: usize, step: usize, m: usize) -> usize
+    requires { ⌜ (start + step < 2 ^ 64) × (start + m * step < 2 ^ 64) ⌝ }
+    ensures { λ r. ⌜ r ≡ start + partAt interleaved step m ⌝ }
 {
-    transfer::numbers::take(buf, a, start, step, m, lanes);
-    transfer::numbers::take(buf, b, start + m * step, step, m, lanes);
-    lifting::back(kernel, a, b, m, lanes);
-    transfer::numbers::put(a, buf, start, 2 * step, m, lanes);
-    transfer::numbers::put(b, buf, start + step, 2 * step, m, lanes);
+    if interleaved {
+        start + step
+    } else {
+        start + m * step
+    }
 }
 
-// One or the other, chosen once for a strip.
+// The transforms of `lanes` lines whose parts are in the strips, or the way back.
+fn lift(kernel: Kernel, undo: bool, a: &mut [i32], b: &mut [i32], m: usize, lanes: usize)
+    requires { ⌜ Strips m lanes (now a) (now b) ⌝ }
+    requires { ⌜ Liftable undo (m * lanes) (now a) (now b) ⌝ }
+    ensures { λ _. ⌜ LiftedStrips undo kernel m lanes (now (a .entry)) (now (b .entry)) (now (a .exit)) (now (b .exit)) ⌝ }
+{
+    if undo {
+        lifting::back(kernel, a, b, m, lanes);
+    } else {
+        lifting::forward(kernel, a, b, m, lanes);
+    }
+}
+
+// Transforms, in place, `lanes` lines of 2m numbers, the first number of line j at start + j, the others of it step apart; or takes them
+// back. The ways differ in which side is interleaved.
 fn lines(
     kernel: Kernel,
     undo: bool,
@@ -73,13 +62,17 @@ fn lines(
     requires { ⌜ InBuffer (now buf) start step (2 * m) lanes ⌝ }
     requires { ⌜ Strips m lanes (now a) (now b) ⌝ }
     requires { ⌜ ((j : ℕ) → j < lanes → Takes undo (2 * m) (strided (pos 0) (now buf) (start + j) step)) ⌝ }
-    ensures { λ _. ⌜ Lines (lineOf undo kernel) (pos 0) start step (2 * m) lanes (now (buf .entry)) (now (buf .exit)) ⌝ }
+    ensures { λ _. ⌜ Lines (lineTransform undo kernel) (pos 0) start step (2 * m) lanes (now (buf .entry)) (now (buf .exit)) ⌝ }
 {
-    if undo {
-        lines_back(kernel, buf, a, b, start, step, m, lanes);
-    } else {
-        lines_forward(kernel, buf, a, b, start, step, m, lanes);
-    }
+    let from = part_step(!undo, step);
+    let from_second = second_part(!undo, start, step, m);
+    let to = part_step(undo, step);
+    let to_second = second_part(undo, start, step, m);
+    transfer::numbers::take(buf, a, start, from, m, lanes);
+    transfer::numbers::take(buf, b, from_second, from, m, lanes);
+    lift(kernel, undo, a, b, m, lanes);
+    transfer::numbers::put(a, buf, start, to, m, lanes);
+    transfer::numbers::put(b, buf, to_second, to, m, lanes);
 }
 
 // The row pass over an area of w by h, in rows of stride numbers.
@@ -95,7 +88,7 @@ pub fn row_pass(
 )
     requires { ⌜ Area stride w h (now buf) (now a) (now b) ⌝ }
     requires { ⌜ ((y : ℕ) → y < h → Takes undo w (picture (pos 0) stride (now buf) y)) ⌝ }
-    ensures { λ _. ⌜ picture (pos 0) stride (now (buf .exit)) ≡ rowPass (lineOf undo kernel) w h (picture (pos 0) stride (now (buf .entry))) ⌝ }
+    ensures { λ _. ⌜ picture (pos 0) stride (now (buf .exit)) ≡ rowPass (lineTransform undo kernel) w h (picture (pos 0) stride (now (buf .entry))) ⌝ }
 {
     for y in 0..h {
         lines(kernel, undo, buf, a, b, y * stride, 1, w / 2, 1);
@@ -122,7 +115,7 @@ pub fn col_pass(
 )
     requires { ⌜ Area stride w h (now buf) (now a) (now b) ⌝ }
     requires { ⌜ ((x : ℕ) → x < w → Takes undo h (turned (picture (pos 0) stride (now buf)) x)) ⌝ }
-    ensures { λ _. ⌜ picture (pos 0) stride (now (buf .exit)) ≡ colPass (lineOf undo kernel) w h (picture (pos 0) stride (now (buf .entry))) ⌝ }
+    ensures { λ _. ⌜ picture (pos 0) stride (now (buf .exit)) ≡ colPass (lineTransform undo kernel) w h (picture (pos 0) stride (now (buf .entry))) ⌝ }
 {
     let mut x: usize = 0;
     while x < w {

@@ -4,17 +4,19 @@ use mathlib.Core.Path.{_≡_}
 use Prim.Native.Nat.{ℕ, zero, suc, _+_, _*_, _-_, _/_, _%_, _^_, _<_, _≤_}
 use native.Mathlib.Omega.{arith}
 use lib.IntN.{ℤ}
-use Rattle.kernel.specs.declared.Kernel.{Kernel}
 use Rattle.whole.specs.Within.{Within}
+use Rattle.kernel.specs.declared.Kernel.{Kernel}
 use Rattle.line.specs.Cells.{Line, behind}
-use Rattle.line.specs.Bounds.{AllWithin}
+use Rattle.line.specs.Inner.{AllWithin}
 use Rattle.line.specs.Transform.{low, high, forward, back}
 use Rattle.line.proofs.Cells.{by-lt, joined-low, joined-high}
 use Rattle.line.proofs.Bounds.{low-within, high-within, back-within, within-more}
-use Rattle.grid.specs.Picture.{Picture, rowPass, turned, colPass, walk, walkBack, Halves}
+use Rattle.grid.specs.Buffer.{Halves}
+use Rattle.grid.specs.Picture.{Picture, rowPass, turned, colPass, walk, walkBack}
 use Rattle.grid.proofs.Passes.{line-in, pass-in}
 use Rattle.grid.proofs.Outside.{walk-below, walk-right, back-below, back-right}
-use Rattle.plane.specs.Plane.{transformed, Below}
+use Rattle.plane.specs.Inner.{Below}
+use Rattle.plane.specs.Plane.{transformed}
 
 pub below-more : {a b w h : ℕ} {P : Picture ℤ} → Below a w h P → a ≤ b → Below b w h P
 below-more p le = record { each = λ y x h k. within-more (p .each y x h k) le }

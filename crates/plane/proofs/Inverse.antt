@@ -6,7 +6,8 @@ use Rattle.kernel.specs.declared.Kernel.{Kernel}
 use Rattle.line.specs.Transform.{forward, back}
 use Rattle.line.proofs.Local.{forward-local, back-local}
 use Rattle.line.proofs.Back.{back-forward, forward-back}
-use Rattle.grid.specs.Picture.{Picture, Halves}
+use Rattle.grid.specs.Buffer.{Halves}
+use Rattle.grid.specs.Picture.{Picture}
 use Rattle.grid.proofs.Back.{walk-back, back-walk}
 use Rattle.plane.specs.Plane.{transformed, undone}
 

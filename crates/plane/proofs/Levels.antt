@@ -9,13 +9,14 @@ use borrow.Author.Tests.{eq-eqb}
 use Rattle.kernel.specs.declared.Kernel.{Kernel}
 use Rattle.line.specs.Transform.{back}
 use Rattle.line.specs.Mask.{maskLine}
+use Rattle.line.specs.Cells.{count}
 use Rattle.line.proofs.Covered.{covered}
-use Rattle.grid.specs.Picture.{Picture, walk, side, Halves, AgreeOn}
+use Rattle.grid.specs.Buffer.{Halves}
+use Rattle.grid.specs.Picture.{Picture, walk, side, AgreeOn}
 use Rattle.grid.proofs.Levels.{walk-add, halves-add, side-le}
 use Rattle.grid.proofs.Covered.{walk-covered}
 use Rattle.plane.specs.Plane.{undone, maskOf, levelMask, levelPicture}
-use Rattle.line.specs.Cells.{count}
-use Rattle.plane.specs.Counts.{same, places}
+use Rattle.plane.specs.Counts.{same, places, differs}
 
 -- ---- counts
 same-self : (a : ℤ) → same a a ≡ true
@@ -33,10 +34,6 @@ unfolding places
 places-none w zero F none = refl
 places-none w (suc h) F none =
     rw (places-none w h F (λ y x p. none y x (omega arith)), count-none w (F h) (λ x q. none h x (omega arith) q)) (omega arith)
-
--- marked and different
-abbrev pub differs : Picture Bool → Picture ℤ → Picture ℤ → Picture Bool
-differs B P Q y x = B y x && not (same (P y x) (Q y x))
 
 nowhere : (m : Bool) (a b : ℤ) → (m ≡ true → a ≡ b) → (m && not (same a b)) ≡ false
 nowhere false a b e = refl

@@ -1,8 +1,8 @@
 -- Demand 3, last part: with kernel S no mark can be spared. Four more, or four less, in a marked coefficient alone alters an undone number where the
 -- region marks, and one of the two is accepted.
 --
---   Moved k z z′      == z′ is z with 2^k · d more, d not 0
---   block w u         == which pair of a line of w numbers the coefficient u belongs to
+--   Moved k z z′ == z′ is z with 2^k · d more, d not 0
+--   block w u    == which pair of a line of w numbers the coefficient u belongs to
 --
 -- Assumes nothing.
 use mathlib.Core.Path.{_≡_, refl, sym, ap, ap₂, _∙_}
@@ -14,9 +14,9 @@ use native.Mathlib.Omega.{arith}
 use lib.Dec.{ltb, eqb}
 use lib.IntN.{ℤ, pos, negsuc, negℤ, _+ℤ_}
 use borrow.Author.Tests.{lt-ltb, le-ltb, eq-eqb, ne-eqb}
-use Rattle.kernel.specs.declared.Kernel.the-variants.{S}
 use Rattle.whole.specs.Within.{up, dn, Within}
 use Rattle.whole.proofs.Linear.{lin, ι-split}
+use Rattle.kernel.specs.declared.Kernel.the-variants.{S}
 use Rattle.line.specs.Cells.{Line, choose}
 use Rattle.line.specs.Transform.{back}
 use Rattle.line.specs.Mask.{lowMark, highMark, maskLine}
@@ -24,7 +24,8 @@ use Rattle.line.proofs.Cells.{by-lt, by-parity, joined-low, joined-high}
 use Rattle.line.proofs.Covered.{covered}
 use Rattle.line.proofs.Marks.{or-cases}
 use Rattle.line.proofs.Spare.{spare-none, spare-low, spare-high, low-marks-pair, high-marks-pair}
-use Rattle.grid.specs.Picture.{Picture, rowPass, turned, colPass, walk, walkBack, Halves}
+use Rattle.grid.specs.Buffer.{Halves}
+use Rattle.grid.specs.Picture.{Picture, rowPass, turned, colPass, walk, walkBack}
 use Rattle.grid.proofs.Passes.{line-in, pass-in}
 use Rattle.grid.proofs.Covered.{walk-covered}
 use Rattle.grid.proofs.Outside.{walk-below, walk-right, back-below, back-right}

@@ -1,13 +1,12 @@
--- The plane of a picture, the way back, and the mask of a region (document 01, "Levels" and "The mask"), for pictures of W by H and J levels.
+-- The plane of a picture, the way back, and the mask of a region, for pictures of W by H and J levels (docs/FORMAT.md, "Levels" and "Region and mask").
 --
---   transformed k J W H P     == the plane of the picture P under kernel k
---   undone k J W H P          == the undone numbers of the plane P
---   maskOf k J W H B          == the mask of the region B
---   levelMask k j W H B       == level j's mask, on the area of side j W by side j H; for j = 0 the region
---   levelPicture k J j W H P  == the picture at level j of the plane P, on that area: the deepest J − j levels undone
---   Below a w h P             == each number of the upper left area of w by h has a magnitude of at most a
---   changed P v u d           == P with d more in row v and column u
---   Altered W H B P P′        == P and P′ differ at a place of W by H that B marks
+--   transformed k J W H P    == the plane of the picture P under kernel k
+--   undone k J W H P         == the undone numbers of the plane P
+--   maskOf k J W H B         == the mask of the region B
+--   levelMask k j W H B      == level j's mask, on the area of side j W by side j H; for j = 0 the region
+--   levelPicture k J j W H P == the picture at level j of the plane P, on that area: the deepest J − j levels undone
+--   changed P v u d          == P with d more in row v and column u
+--   Altered W H B P P′       == P and P′ differ at a place of W by H that B marks
 --
 -- Assumes nothing: these are definitions.
 use mathlib.Core.Path.{_≡_}
@@ -16,7 +15,6 @@ use mathlib.Core.Bool.{Bool, true, _&&_}
 use Prim.Native.Nat.{ℕ, _-_, _<_}
 use lib.Dec.{eqb}
 use lib.IntN.{ℤ, _+ℤ_}
-use Rattle.whole.specs.Within.{Within}
 use Rattle.kernel.specs.declared.Kernel.{Kernel}
 use Rattle.line.specs.Cells.{choose}
 use Rattle.line.specs.Transform.{forward, back}
@@ -37,9 +35,6 @@ levelMask k j W H B = maskOf k j W H B
 
 abbrev pub levelPicture : Kernel → ℕ → ℕ → ℕ → ℕ → Picture ℤ → Picture ℤ
 levelPicture k J j W H P = undone k (J - j) (side j W) (side j H) P
-
-pub record Below (a w h : ℕ) (P : Picture ℤ) : Type 0 where
-  pub each : (y x : ℕ) → y < h → x < w → Within a (P y x)
 
 unfoldable pub changed : Picture ℤ → ℕ → ℕ → ℤ → Picture ℤ
 changed P v u d y x = choose (eqb y v && eqb x u) (P y x +ℤ d) (P y x)

@@ -1,1 +1,1 @@
-// Planes and masks of pictures as definitions, with the theorems of demands 2 and 3; `wavelet` and `masking` have the code.
+// Planes and masks of pictures as definitions, with the theorems of demands 2 and 3; `wavelet` and `picture_mask` have the code.

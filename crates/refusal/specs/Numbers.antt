@@ -1,15 +1,16 @@
--- The refusals' numbers, and which of an ordered list of tests holds first (document 01, "Turned back, by who can cause it").
+-- The refusals' numbers, and which of an ordered list of tests holds first (docs/FORMAT.md, "Refusals").
 --
---   refusalNumber r  == document 01's number of a refusal
---   answerNumber a   == 0, or the number of the refusal
---   test b n         == the test b, which refuses with number n where it holds
---   first ts         == the number of the first test that holds, 0 if none does
---   accepted ts      == none does
+--   refusalNumber r == the number of a refusal
+--   answerNumber a  == 0, or the number of the refusal
+--   Test            == a test of a call: its condition and its number
+--   test b n        == the test b, which refuses with number n where it holds
+--   first ts        == the number of the first test that holds, 0 if none does
+--   accepted ts     == no test holds
 --
 -- Assumes nothing: these are definitions.
-use Prim.Native.Nat.{ℕ}
 use mathlib.Core.Bool.{Bool}
 use mathlib.Core.List.{List, [], _∷_}
+use Prim.Native.Nat.{ℕ}
 use lib.Dec.{eqb}
 use Rattle.line.specs.Cells.{choose}
 use Rattle.refusal.specs.declared.Refusal.{Refusal}

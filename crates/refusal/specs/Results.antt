@@ -1,4 +1,4 @@
--- What an entry leaves in a lent buffer.
+-- What an entry leaves in a lent buffer (docs/FORMAT.md, "Refusals" and "Calls").
 --
 --   Result o ok f l l′ == l′ is as long as l, and each of its cells is what f says where the call is accepted, else what it held
 --

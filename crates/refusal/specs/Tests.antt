@@ -1,21 +1,24 @@
--- The conditions of the refusals, each over what a call lends (document 01, "Turned back, by who can cause it").
+-- The conditions of the refusals, each over what a call lends (docs/FORMAT.md, "Refusals").
 --
---   badKernel n          == 1: kernel not 0 to 3
---   badLevels J          == 2: J not 1 to 5
---   badDepth D, badDrop q == 3: D not 1 to 10, or q above 22
---   badSize W H          == 4 of a call without J: W or H not 1 to 4,096
---   badSizeAt J W H      == 4: that, or not a multiple of 2^J
---   badLength W H n      == 5: a buffer that is not W · H long
---   badSample D l        == 6: a sample above 2^D − 1
---   badNumbers l         == 7: rectangle numbers not a multiple of 4, or above 32 rectangles
---   badRectangles W H l  == 8: a rectangle, x y width height, empty or not wholly inside
---   badMark l            == 9: a region or mask byte above 1
---   badMagnitude l       == 10: a magnitude of 2^22 or more
+--   outside low high n       == n is not low to high
+--   badKernel n              == 1: kernel not 0 to 3
+--   badLevels J              == 2: J not 1 to 5
+--   badDepth D               == 3: D not 1 to 10
+--   badDrop q                == 3 of truncation: q above 22
+--   badSize W H              == 4 of a call without J: W or H not 1 to 4,096
+--   badSizeAt J W H          == 4: that, or not a multiple of 2^J
+--   badLength W H n          == 5: a buffer that is not W · H long
+--   badSample D l            == 6: a sample above 2^D − 1
+--   badNumbers l             == 7: rectangle numbers not a multiple of 4, or above 32 rectangles
+--   badRectangle W H x y w h == the rectangle x, y, w, h is empty or not wholly inside
+--   badRectangles W H l      == 8: any of the rectangles is bad
+--   badMark l                == 9: a region or mask byte above 1
+--   badMagnitude l           == 10: a magnitude of 2^22 or more
 --
 -- Assumes nothing: these are definitions.
-use Prim.Native.Nat.{ℕ, _+_, _*_, _-_, _/_, _%_, _^_}
 use mathlib.Core.Bool.{Bool, not, _||_}
 use mathlib.Core.List.{List}
+use Prim.Native.Nat.{ℕ, _+_, _*_, _-_, _/_, _%_, _^_}
 use lib.Dec.{leb, ltb, eqb}
 use lib.IntN.{ℤ, pos, natAbs}
 use lib.ListN.{length, getD}

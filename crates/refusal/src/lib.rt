@@ -6,7 +6,7 @@ ghost use lib.IntN.{natAbs};
 ghost use Rattle.refusal.specs.Numbers.{refusalNumber, answerNumber};
 ghost use Rattle.refusal.specs.Tests as tests;
 
-// Document 01's refusals 1 to 16, in the order of their numbers.
+// Refusals 1 to 16, in the order of their numbers (docs/FORMAT.md, "Refusals").
 pub enum Refusal {
     Kernel,
     Levels,
@@ -32,7 +32,7 @@ pub enum Answer {
     Refused(Refusal),
 }
 
-// Document 01's number of a refusal.
+// The number of a refusal.
 pub fn refusal_number(refusal: Refusal) -> u64
     ensures { λ r. ⌜ r ≡ refusalNumber refusal ⌝ }
 {

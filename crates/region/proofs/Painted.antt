@@ -14,9 +14,8 @@ use borrow.Author.Tests.{lt-ltb, le-leb, ltb-false}
 use lib.Dec.{eqb, ltb}
 use lib.ListN.{length, getD}
 use Rattle.line.specs.Cells.{choose}
-use Rattle.line.specs.Mask.{anyBelow}
+use Rattle.line.specs.Mask.{anyBelow, byteOf}
 use Rattle.line.proofs.Marks.{any-elim}
-use Rattle.marking.specs.Marks.{byteOf}
 use Rattle.refusal.specs.Results.{Result}
 use Rattle.refusal.specs.Tests.{badRectangle, badRectangles}
 use Rattle.refusal.proofs.Passed.{neither, none-of, not-any}

@@ -1,10 +1,10 @@
--- The region that rectangles draw (document 01, "The mask": one byte a sample, 1 inside any rectangle, else 0).
+-- The region that rectangles draw (docs/FORMAT.md, "Region and mask" and "Calls").
 --
---   inBox x y w h c r    == column c and row r are inside the rectangle x, y, width w, height h
---   inRectangle l r x y  == column x and row y are inside rectangle r of the numbers l, four a rectangle: x, y, width, height
---   inRegion l x y       == they are inside any rectangle
---   regionByte l W i     == the region's byte at place i of rows of W
---   regionTests          == the refusals of the call, in document 01's order: 4, 7, 8, 5
+--   inBox x y w h c r   == column c and row r are inside the rectangle x, y, width w, height h
+--   inRectangle l r x y == column x and row y are inside rectangle r of the numbers l, four a rectangle: x, y, width, height
+--   inRegion l x y      == they are inside any rectangle
+--   regionByte l W i    == the region's byte at place i of rows of W
+--   regionTests         == the refusals of the call, in order: 4, 7, 8, 5
 --
 -- Assumes nothing: these are definitions.
 use mathlib.Core.Bool.{Bool, _&&_}
@@ -12,8 +12,7 @@ use mathlib.Core.List.{List, [], _∷_}
 use Prim.Native.Nat.{ℕ, _+_, _*_, _/_, _%_}
 use lib.Dec.{leb, ltb}
 use lib.ListN.{length, getD}
-use Rattle.line.specs.Mask.{anyBelow}
-use Rattle.marking.specs.Marks.{byteOf}
+use Rattle.line.specs.Mask.{anyBelow, byteOf}
 use Rattle.refusal.specs.Numbers.{Test, test}
 use Rattle.refusal.specs.Tests.{badSize, badLength, badNumbers, badRectangles}
 

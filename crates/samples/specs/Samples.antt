@@ -1,9 +1,9 @@
--- Bringing undone numbers into range, and dropping planes (document 01, "Levels" and "Truncation and the stream").
+-- Bringing undone numbers into range, and dropping planes (docs/FORMAT.md, "Showing", "Truncation" and "Calls").
 --
---   inRange D z         == z brought into 0 .. 2^D − 1: below to 0, above to the top
---   truncated q m z     == z, where it is marked, else dropped q z
---   showTests           == the refusals of showing, in document 01's order: 3, 4, 5
---   truncateTests       == the refusals of truncation: 3, 4, 5, 9, 10
+--   inRange D z     == z brought into 0 .. 2^D − 1: below to 0, above to the top
+--   truncated q m z == z, where it is marked, else dropped q z
+--   showTests       == the refusals of showing, in order: 3, 4, 5
+--   truncateTests   == the refusals of truncation: 3, 4, 5, 9, 10
 --
 -- Assumes nothing: these are definitions.
 use mathlib.Core.Bool.{Bool}

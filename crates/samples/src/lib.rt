@@ -5,7 +5,7 @@ ghost use Prim.Native.Nat.{_*_, _/_, _≤_, _<_, _^_, min};
 ghost use lib.IntN.{pos, natAbs};
 ghost use lib.ListN.{length, getD};
 ghost use Rattle.whole.specs.Within.{up};
-ghost use Rattle.marking.specs.Marks.{marked};
+ghost use Rattle.line.specs.Mask.{marked};
 ghost use Rattle.refusal.specs.Numbers.{answerNumber, first, accepted};
 ghost use Rattle.refusal.specs.Results.{Result};
 ghost use Rattle.bitplane.specs.Bits.{dropped};

@@ -9,7 +9,7 @@ use lib.Pow.{pow-pos, pow-mono}
 use borrow.Author.Tests.{le-leb, lt-leb}
 use Rattle.line.specs.Cells.{count, cell}
 use Rattle.line.proofs.Cells.{by-lt}
-use Rattle.bitplane.specs.Body.{PlaneCount}
+use Rattle.bitplane.specs.Inner.{PlaneCount}
 use Rattle.scan.specs.Scan.{largest, digits, planeCount}
 use Rattle.scan.proofs.Largest.{largest-each, largest-at}
 

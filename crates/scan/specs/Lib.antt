@@ -1,2 +1,3 @@
 -- What the contracts on scans cite.
 pub mod Scan
+pub mod Inner

@@ -3,7 +3,7 @@ ghost use mathlib.Core.Path.{_≡_};
 ghost use Prim.Native.Nat.{max};
 ghost use lib.IntN.{natAbs};
 ghost use Rattle.line.specs.Cells.{choose};
-ghost use Rattle.scan.specs.Scan.{signCount, markCount};
+ghost use Rattle.scan.specs.Inner.{signCount, markCount};
 ghost use Rattle.scan.specs.Scan as scans;
 
 pub struct Found {

@@ -5,22 +5,22 @@ use mathlib.Core.List.{List}
 use Prim.Native.Nat.{ℕ, _+_, _*_, _/_, _%_, _<_, _≤_}
 use native.Mathlib.Nat.{mul-comm, mul-le-mul-right}
 use native.Mathlib.Omega.{arith}
-use borrow.Author.Tests.{lt-ltb, le-ltb}
 use lib.Arith.{digits-div, digits-mod, digits-lt}
 use lib.ListN.{length, getD, List·getD-eq-default}
+use borrow.Author.Tests.{lt-ltb, le-ltb}
 use Rattle.kernel.specs.declared.Kernel.{Kernel}
+use Rattle.line.specs.Mask.{marked, byteOf}
 use Rattle.line.proofs.Cells.{by-lt}
 use Rattle.line.proofs.Lists.{listed-length, listed-cell, is-listed}
-use Rattle.marking.specs.Marks.{marked, byteOf}
-use Rattle.grid.specs.Picture.{Picture}
-use Rattle.grid.specs.Buffer.{picture}
+use Rattle.grid.specs.Picture.{Picture, picture}
 use Rattle.plane.specs.Plane.{maskOf}
 use Rattle.refusal.specs.Results.{Result}
 use Rattle.region.specs.Region.{inRegion, regionByte}
 use Rattle.region.proofs.Painted.{outside-none}
-use Rattle.masking.specs.Masks.{regionOf, maskAt}
-use Rattle.masking.specs.Areas.{Region}
-use Rattle.shot.specs.Shots.{drawn, maskBytes, Drawable}
+use Rattle.picture_mask.specs.Masks.{regionOf, maskAt}
+use Rattle.picture_mask.specs.Areas.{Region}
+use Rattle.shot.specs.Inner.{Drawable}
+use Rattle.shot.specs.Shots.{drawn, maskBytes}
 
 byte-most : (b : Bool) → byteOf b ≤ 1
 byte-most true = omega arith

@@ -11,7 +11,8 @@ use Rattle.refusal.specs.Tests.{badKernel, badLevels, badDepth, badSizeAt}
 use Rattle.refusal.specs.declared.Refusal.{Refusal}
 use Rattle.shot.specs.declared.Setting.{Setting}
 use Rattle.shot.specs.declared.Setting.the-variants.{Taken, Refused}
-use Rattle.shot.specs.Shots.{settingTests, Set}
+use Rattle.shot.specs.Inner.{Set}
+use Rattle.shot.specs.Shots.{settingTests}
 
 never : {r : Refusal} {k : Kernel} → Refused r ≡ Taken k → ⊥
 never p = let z : _≡_ {A = ℕ} 0 1 = cc in omega arith

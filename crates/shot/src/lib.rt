@@ -1,7 +1,8 @@
 // A shot's setting and mask, which the writer and the reader of codestreams share.
 ghost use mathlib.Core.Path.{_≡_};
 ghost use lib.ListN.{length};
-ghost use Rattle.shot.specs.Shots.{Set, Drawable, maskBytes};
+ghost use Rattle.shot.specs.Inner.{Set, Drawable};
+ghost use Rattle.shot.specs.Shots.{maskBytes};
 use kernel::Choice;
 use kernel::Kernel;
 use refusal::Refusal;
@@ -44,5 +45,5 @@ pub fn draw_mask(
     ensures { λ _. ⌜ now (mask .exit) ≡ maskBytes kernel levels w h (now (numbers .entry)) ⌝ }
 {
     region::draw(numbers, w, mask);
-    masking::mask_levels(kernel, levels, w, h, mask);
+    picture_mask::mask_levels(kernel, levels, w, h, mask);
 }

@@ -16,7 +16,8 @@ use Rattle.header.specs.Header.{badHeader}
 use Rattle.header.specs.Fields.{shotOf}
 use Rattle.codestream.specs.Reading.{readTests}
 use Rattle.exactness.specs.Shown.{shownAt}
-use Rattle.showing.specs.Showing.{roomFor, samplesAfter, shownAfter, Alike}
+use Rattle.showing.specs.Inner.{samplesAfter, Alike}
+use Rattle.showing.specs.Showing.{roomFor, shownAfter}
 
 pub area-fits : {w h : ℕ} → w ≤ 64 → h ≤ 64 → w * h ≤ 4096
 area-fits {w} {h} p q = mul-le-mul p q

@@ -20,10 +20,10 @@ use Rattle.refusal.specs.Tests.{badKernel, badLevels, badDepth, badSize, badSiz
 use Rattle.refusal.specs.Results.{Result}
 use Rattle.refusal.proofs.Ordered.{none, next, passes-test, numbered, accepted-both}
 use Rattle.refusal.proofs.Passed.{neither}
-use Rattle.header.specs.Header.{bodyTests}
-use Rattle.header.specs.Fields.{Shot, shotOf}
 use Rattle.wavelet.specs.Wavelet.{undoneNumber, undoTests}
 use Rattle.samples.specs.Samples.{inRange, showTests}
+use Rattle.header.specs.Header.{bodyTests}
+use Rattle.header.specs.Fields.{Shot, shotOf}
 use Rattle.shot.specs.Shots.{settingTests, rectangleTests}
 use Rattle.codestream.specs.Stream.{area}
 use Rattle.codestream.specs.Reading.{planeOf, badPlanes, readTests, noShot, shotRead, planeAfter}
@@ -31,7 +31,8 @@ use Rattle.codestream.proofs.Planes.{plane-accepted}
 use Rattle.decoder.specs.Answers.{headerFor}
 use Rattle.decoder.specs.declared.Header.{Header}
 use Rattle.exactness.specs.Shown.{undoneAt, shownAt}
-use Rattle.showing.specs.Showing.{roomFor, samplesAfter, Alike}
+use Rattle.showing.specs.Inner.{samplesAfter, Alike}
+use Rattle.showing.specs.Showing.{roomFor}
 use Rattle.showing.proofs.Rooms.{room-small}
 
 pub record Undone (h : Header) (plane undone undone′ : List ℤ) (shown shown′ : List ℕ) : Type 0 where

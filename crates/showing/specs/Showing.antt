@@ -1,13 +1,10 @@
--- Showing a stream in working memory for pictures to 64 by 64 (document 01, "Truncation and the stream", "Worked shots").
+-- Showing a stream in working memory for pictures to 64 by 64 (docs/FORMAT.md, "The program showshot").
 --
---   roomFor l n         == the length of the buffers that the stream l is read into, where n samples can be shown: W · H, if the header is
---                          not refused with 12 and the picture is within 64 by 64 and n, else 0
---   samplesAfter l held == what a buffer of that length then holds: the shown samples, under a refusal what it held
---   shownAfter l held   == what the lent buffer then holds: the shown samples in front and behind them what it held, under a refusal what it held
---   Alike n m u s       == the lengths of plane, mask, undone and shown buffer are equal
+--   roomFor l n       == the length of the buffers that the stream l is read into, where n samples can be shown: W · H, if the header is
+--                        not refused with 12 and the picture is within 64 by 64 and n, else 0
+--   shownAfter l held == what the lent buffer then holds: the shown samples in front and behind them what it held, under a refusal what it held
 --
 -- Assumes nothing: these are definitions.
-use mathlib.Core.Path.{_≡_}
 use mathlib.Core.Bool.{_&&_}
 use mathlib.Core.List.{List, _++_}
 use Prim.Native.Nat.{ℕ, _*_}
@@ -25,15 +22,7 @@ roomFor l n =
     let s = shotOf l in
     choose (badHeader l) 0 (choose (leb (s .width) 64 && leb (s .height) 64 && leb (s .width * s .height) n) (s .width * s .height) 0)
 
-abbrev pub samplesAfter : List ℕ → List ℕ → List ℕ
-samplesAfter l held = choose (accepted (readTests l (length held) (length held))) (listed (length held) (shownAt l)) held
-
 abbrev pub shownAfter : List ℕ → List ℕ → List ℕ
 shownAfter l held =
     let m = roomFor l (length held) in
     choose (accepted (readTests l m m)) (listed m (shownAt l) ++ drop m held) held
-
-pub record Alike (n m u s : ℕ) : Type 0 where
-  pub mask : m ≡ n
-  pub undone : u ≡ n
-  pub shown : s ≡ n

@@ -3,7 +3,8 @@ ghost use mathlib.Core.Path.{_≡_};
 ghost use lib.ListN.{length};
 ghost use Rattle.codestream.specs.Reading.{readNumbers, shotRead};
 ghost use Rattle.decoder.specs.Answers.{numbersOf, headerFor};
-ghost use Rattle.showing.specs.Showing.{roomFor, samplesAfter, shownAfter, Alike};
+ghost use Rattle.showing.specs.Inner.{samplesAfter, Alike};
+ghost use Rattle.showing.specs.Showing.{roomFor, shownAfter};
 use decoder::Reading;
 
 // Shows a stream of a picture of at most 64 by 64 samples: reads it, undoes it and brings it into range, each with what its header says.

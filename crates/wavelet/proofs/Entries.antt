@@ -8,28 +8,29 @@ use native.Mathlib.Omega.{arith}
 use lib.Arith.{digits-lt}
 use lib.IntN.{ℤ, pos, negsuc, natAbs}
 use lib.ListN.{length, getD, List·getD-eq-default}
-use Rattle.line.proofs.Cells.{by-lt}
-use Rattle.line.proofs.Bounds.{within-more}
+use borrow.Author.Tests.{lt-ltb, le-ltb}
 use Rattle.whole.specs.Within.{Within}
-use Rattle.grid.specs.Picture.{Picture}
-use Rattle.grid.specs.Buffer.{picture, Taken}
-use Rattle.grid.proofs.Passes.{cell, cell-of}
 use Rattle.kernel.specs.declared.Kernel.{Kernel}
 use Rattle.kernel.specs.Kernels.{theKernel}
-use Rattle.plane.specs.Plane.{transformed, undone, Below}
+use Rattle.line.proofs.Cells.{by-lt}
+use Rattle.line.proofs.Bounds.{within-more}
+use Rattle.grid.specs.Picture.{Picture, picture}
+use Rattle.grid.specs.Buffer.{Taken}
+use Rattle.grid.proofs.Passes.{cell, cell-of}
+use Rattle.plane.specs.Inner.{Below}
+use Rattle.plane.specs.Plane.{transformed, undone}
 use Rattle.refusal.specs.Results.{Result}
-use Rattle.wavelet.specs.Wavelet.{samplesOf, planeOf, coefficient, undoneNumber}
+use Rattle.wavelet.specs.Wavelet.{samplesOf, coefficientsOf, coefficient, undoneNumber}
 use Rattle.wavelet.specs.Walks.{areaBound, Levels, Sized}
-use borrow.Author.Tests.{lt-ltb, le-ltb}
 
 -- ---- buffers that hold the same
-plane-same : (W : ℕ) (l : List ℤ) (P : Picture ℤ) → ((y x : ℕ) → x < W → getD l (y * W + x) (pos 0) ≡ P y x) → ((y x : ℕ) → W ≤ x → pos 0 ≡ P y x) → planeOf W l ≡ P
+plane-same : (W : ℕ) (l : List ℤ) (P : Picture ℤ) → ((y x : ℕ) → x < W → getD l (y * W + x) (pos 0) ≡ P y x) → ((y x : ℕ) → W ≤ x → pos 0 ≡ P y x) → coefficientsOf W l ≡ P
 unfolding picture
 plane-same W l P inside right = fun-ext λ y. fun-ext λ x. by-lt x W
     (λ lt. simp (lt-ltb x W lt) (inside y x lt))
     (λ ge. simp (le-ltb x W ge) (right y x ge))
 
-pub widened : (W : ℕ) (s : List ℕ) (l l′ : List ℤ) → length s ≡ length l → Result (pos 0) true (λ i. pos (getD s i 0)) l l′ → planeOf W l′ ≡ samplesOf W s
+pub widened : (W : ℕ) (s : List ℕ) (l l′ : List ℤ) → length s ≡ length l → Result (pos 0) true (λ i. pos (getD s i 0)) l l′ → coefficientsOf W l′ ≡ samplesOf W s
 unfolding picture
 widened W s l l′ e r = plane-same W l′ (samplesOf W s)
     (λ y x lt. simp (lt-ltb x W lt) (at (y * W + x)))
@@ -40,9 +41,9 @@ widened W s l l′ e r = plane-same W l′ (samplesOf W s)
         (λ lt. r .cell i lt)
         (λ ge. List·getD-eq-default l′ (pos 0) (rw (r .size) ge) ∙ ap pos (sym (List·getD-eq-default s 0 (rw e ge))))
 
-pub copied : (W n : ℕ) (p u u′ : List ℤ) → length p ≡ n → length u ≡ n → Taken (pos 0) p 0 1 n 1 u u′ → planeOf W u′ ≡ planeOf W p
+pub copied : (W n : ℕ) (p u u′ : List ℤ) → length p ≡ n → length u ≡ n → Taken (pos 0) p 0 1 n 1 u u′ → coefficientsOf W u′ ≡ coefficientsOf W p
 unfolding picture
-copied W n p u u′ e f t = plane-same W u′ (planeOf W p)
+copied W n p u u′ e f t = plane-same W u′ (coefficientsOf W p)
     (λ y x lt. simp (lt-ltb x W lt) (at (y * W + x)))
     (λ y x ge. simp (le-ltb x W ge))
   where
@@ -52,7 +53,7 @@ copied W n p u u′ e f t = plane-same W u′ (planeOf W p)
         (λ ge. List·getD-eq-default u′ (pos 0) (rw (t .size, f) ge) ∙ sym (List·getD-eq-default p (pos 0) (rw e ge)))
 
 -- the filled buffer, cell by cell
-pub filled : (W H : ℕ) (l l′ : List ℤ) (P : Picture ℤ) → length l′ ≡ length l → length l ≡ W * H → planeOf W l′ ≡ P → Result (pos 0) true (λ i. P (i / W) (i % W)) l l′
+pub filled : (W H : ℕ) (l l′ : List ℤ) (P : Picture ℤ) → length l′ ≡ length l → length l ≡ W * H → coefficientsOf W l′ ≡ P → Result (pos 0) true (λ i. P (i / W) (i % W)) l l′
 filled W H l l′ P same size e = record {
   size = same;
   cell = λ i h. cell-of (pos 0) W l′ H i (omega (arith, mul-comm W H)) ∙ ap (λ (Q : Picture ℤ). Q (i / W) (i % W)) e;
@@ -96,7 +97,7 @@ abs-within : (z : ℤ) → natAbs z < 2 ^ 22 → Within (2 ^ 22 - 1) z
 abs-within (pos a) h = record { hi = omega arith; lo = omega arith }
 abs-within (negsuc a) h = record { hi = omega arith; lo = omega arith }
 
-pub plane-below : (W H : ℕ) (l : List ℤ) → length l ≡ W * H → ((i : ℕ) → i < length l → natAbs (getD l i (pos 0)) < 2 ^ 22) → Below (2 ^ 22 - 1) W H (planeOf W l)
+pub plane-below : (W H : ℕ) (l : List ℤ) → length l ≡ W * H → ((i : ℕ) → i < length l → natAbs (getD l i (pos 0)) < 2 ^ 22) → Below (2 ^ 22 - 1) W H (coefficientsOf W l)
 plane-below W H l e all = record {
   each = λ y x p q. rw (cell (pos 0) W l y x q) (abs-within _ (all (y * W + x) (omega (arith, digits-lt p q, mul-comm W H))));
 }
@@ -106,5 +107,5 @@ module _ (n J W H : ℕ) (k : Kernel) (e : theKernel n ≡ k) (l l′ : List ℤ
   pub coefficients-of : (s : List ℕ) → Result (pos 0) true (λ i. transformed k J W H (samplesOf W s) (i / W) (i % W)) l l′ → Result (pos 0) true (coefficient n J W H s) l l′
   coefficients-of s r = subst (λ (j : Kernel). Result (pos 0) true (λ i. transformed j J W H (samplesOf W s) (i / W) (i % W)) l l′) (sym e) r
 
-  pub undone-of : (p : List ℤ) → Result (pos 0) true (λ i. undone k J W H (planeOf W p) (i / W) (i % W)) l l′ → Result (pos 0) true (undoneNumber n J W H p) l l′
-  undone-of p r = subst (λ (j : Kernel). Result (pos 0) true (λ i. undone j J W H (planeOf W p) (i / W) (i % W)) l l′) (sym e) r
+  pub undone-of : (p : List ℤ) → Result (pos 0) true (λ i. undone k J W H (coefficientsOf W p) (i / W) (i % W)) l l′ → Result (pos 0) true (undoneNumber n J W H p) l l′
+  undone-of p r = subst (λ (j : Kernel). Result (pos 0) true (λ i. undone j J W H (coefficientsOf W p) (i / W) (i % W)) l l′) (sym e) r

@@ -10,11 +10,13 @@ use lib.ListN.{length}
 use Rattle.kernel.specs.declared.Kernel.{Kernel}
 use Rattle.line.specs.Transform.{forward, back}
 use Rattle.line.proofs.Bounds.{within-more}
-use Rattle.grid.specs.Picture.{Picture, rowPass, turned, colPass, Halves}
+use Rattle.grid.specs.Buffer.{Halves}
+use Rattle.grid.specs.Picture.{Picture, rowPass, turned, colPass}
 use Rattle.grid.proofs.Levels.{halves-more}
-use Rattle.passes.specs.Passes.{Takes, Area}
-use Rattle.plane.specs.Plane.{undone, Below}
+use Rattle.plane.specs.Inner.{Below}
+use Rattle.plane.specs.Plane.{undone}
 use Rattle.plane.proofs.Bounds.{below-more, below-part, undoBound, undo-within, undo-fits, column-lows, column-highs, row-lows, row-highs, row-all, col-all}
+use Rattle.passes.specs.Passes.{Takes, Area}
 use Rattle.wavelet.specs.Walks.{areaBound, Levels}
 
 -- ---- sizes

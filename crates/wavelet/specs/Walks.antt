@@ -1,8 +1,8 @@
 -- What the walks over the levels ask of their buffers and numbers.
 --
---   Sized J W H m n         == J levels and sizes within the limits, and two buffers that are W · H long
---   areaBound n             == a bound on the area's numbers with n levels left, n at most 5
---   Levels stride w h n ..  == an area of w by h that n levels can halve, in a buffer l of rows of `stride` numbers, with working memory a and b
+--   Sized J W H m n        == J levels and sizes within the limits, and two buffers that are W · H long
+--   areaBound n            == a bound on the area's numbers with n levels left, n at most 5
+--   Levels stride w h n .. == an area of w by h that n levels can halve, in a buffer l of rows of `stride` numbers, with working memory a and b
 --
 -- Assumes nothing: these are definitions.
 use mathlib.Core.Path.{_≡_}
@@ -10,7 +10,7 @@ use mathlib.Core.List.{List}
 use Prim.Native.Nat.{ℕ, _*_, _-_, _^_, _<_, _≤_}
 use lib.IntN.{ℤ}
 use lib.ListN.{length}
-use Rattle.grid.specs.Picture.{Halves}
+use Rattle.grid.specs.Buffer.{Halves}
 
 unfoldable pub areaBound : ℕ → ℕ
 areaBound n = 1024 * 9 ^ (5 - n) - 1

@@ -1,11 +1,11 @@
--- The entries that transform a picture and undo a plane: what they leave in the lent buffer, and their refusals.
+-- The entries that transform a picture and undo a plane: what they leave in the lent buffer, and their refusals (docs/FORMAT.md, "Levels" and "Calls").
 --
---   samplesOf W l    == the picture of the samples in a buffer of rows of W
---   planeOf W l      == the plane of the coefficients in a buffer of rows of W
---   coefficient      == the coefficient at place i of the plane of a picture
---   undoneNumber     == the undone number at place i
---   transformTests   == the refusals of transforming, in document 01's order: 1, 2, 3, 4, 5, 6
---   undoTests        == the refusals of undoing: 1, 2, 4, 5, 10
+--   samplesOf W l      == the picture of the samples in a buffer of rows of W
+--   coefficientsOf W l == the plane of the coefficients in a buffer of rows of W
+--   coefficient        == the coefficient at place i of the plane of a picture
+--   undoneNumber       == the undone number at place i
+--   transformTests     == the refusals of transforming, in order: 1, 2, 3, 4, 5, 6
+--   undoTests          == the refusals of undoing: 1, 2, 4, 5, 10
 --
 -- Assumes nothing: these are definitions.
 use mathlib.Core.List.{List, [], _∷_}
@@ -13,8 +13,7 @@ use Prim.Native.Nat.{ℕ, _/_, _%_}
 use lib.IntN.{ℤ, pos}
 use lib.ListN.{length}
 use Rattle.kernel.specs.Kernels.{theKernel}
-use Rattle.grid.specs.Picture.{Picture}
-use Rattle.grid.specs.Buffer.{picture}
+use Rattle.grid.specs.Picture.{Picture, picture}
 use Rattle.plane.specs.Plane.{transformed, undone}
 use Rattle.refusal.specs.Numbers.{Test, test}
 use Rattle.refusal.specs.Tests.{badKernel, badLevels, badDepth, badSizeAt, badLength, badSample, badMagnitude}
@@ -22,14 +21,14 @@ use Rattle.refusal.specs.Tests.{badKernel, badLevels, badDepth, badSizeAt, badL
 abbrev pub samplesOf : ℕ → List ℕ → Picture ℤ
 samplesOf W l y x = pos (picture 0 W l y x)
 
-abbrev pub planeOf : ℕ → List ℤ → Picture ℤ
-planeOf W l = picture (pos 0) W l
+abbrev pub coefficientsOf : ℕ → List ℤ → Picture ℤ
+coefficientsOf W l = picture (pos 0) W l
 
 abbrev pub coefficient : ℕ → ℕ → ℕ → ℕ → List ℕ → ℕ → ℤ
 coefficient k J W H samples i = transformed (theKernel k) J W H (samplesOf W samples) (i / W) (i % W)
 
 abbrev pub undoneNumber : ℕ → ℕ → ℕ → ℕ → List ℤ → ℕ → ℤ
-undoneNumber k J W H plane i = undone (theKernel k) J W H (planeOf W plane) (i / W) (i % W)
+undoneNumber k J W H plane i = undone (theKernel k) J W H (coefficientsOf W plane) (i / W) (i % W)
 
 -- n is the length of the plane's buffer
 abbrev pub transformTests : ℕ → ℕ → ℕ → ℕ → ℕ → List ℕ → ℕ → List Test

@@ -5,12 +5,13 @@ ghost use lib.IntN.{pos};
 ghost use lib.ListN.{length, getD};
 ghost use mathlib.Core.Bool.{true};
 ghost use Rattle.line.specs.Transform as line;
-ghost use Rattle.grid.specs.Picture.{colPass, low, walk, walkBack};
+ghost use Rattle.grid.specs.Picture.{colPass, lowSide, walk, walkBack};
 ghost use Rattle.plane.specs.Plane as planes;
-ghost use Rattle.plane.specs.Plane.{Below, transformed};
+ghost use Rattle.plane.specs.Inner.{Below};
+ghost use Rattle.plane.specs.Plane.{transformed};
 ghost use Rattle.refusal.specs.Numbers.{answerNumber, first, accepted};
 ghost use Rattle.refusal.specs.Results.{Result};
-ghost use Rattle.wavelet.specs.Wavelet.{samplesOf, planeOf, coefficient, undoneNumber, transformTests, undoTests};
+ghost use Rattle.wavelet.specs.Wavelet.{samplesOf, coefficientsOf, coefficient, undoneNumber, transformTests, undoTests};
 ghost use Rattle.wavelet.specs.Walks.{areaBound, Levels, Sized};
 use kernel::Choice;
 use kernel::Kernel;
@@ -29,8 +30,8 @@ fn rows(
     levels: usize,
 )
     requires { ⌜ Levels stride w h levels (now buf) (now a) (now b) ⌝ }
-    requires { ⌜ Below (areaBound levels) w h (planeOf stride (now buf)) ⌝ }
-    ensures { λ _. ⌜ planeOf stride (now (buf .exit)) ≡ walk (line.forward kernel) levels w h (planeOf stride (now (buf .entry))) ⌝ }
+    requires { ⌜ Below (areaBound levels) w h (coefficientsOf stride (now buf)) ⌝ }
+    ensures { λ _. ⌜ coefficientsOf stride (now (buf .exit)) ≡ walk (line.forward kernel) levels w h (coefficientsOf stride (now (buf .entry))) ⌝ }
 {
     if 0 < levels {
         passes::row_pass(kernel, false, buf, a, b, stride, w, h);
@@ -51,8 +52,8 @@ fn cols(
 )
     requires { ⌜ 0 < levels ⌝ }
     requires { ⌜ Levels stride w h levels (now buf) (now a) (now b) ⌝ }
-    requires { ⌜ Below (3 * areaBound levels + 2) w h (planeOf stride (now buf)) ⌝ }
-    ensures { λ _. ⌜ planeOf stride (now (buf .exit)) ≡ walk (line.forward kernel) (levels - 1) (low w) (low h) (colPass (line.forward kernel) w h (planeOf stride (now (buf .entry)))) ⌝ }
+    requires { ⌜ Below (3 * areaBound levels + 2) w h (coefficientsOf stride (now buf)) ⌝ }
+    ensures { λ _. ⌜ coefficientsOf stride (now (buf .exit)) ≡ walk (line.forward kernel) (levels - 1) (lowSide w) (lowSide h) (colPass (line.forward kernel) w h (coefficientsOf stride (now (buf .entry)))) ⌝ }
 {
     passes::col_pass(kernel, false, buf, a, b, stride, w, h);
     rows(kernel, buf, a, b, stride, w / 2, h / 2, levels - 1);
@@ -70,8 +71,8 @@ fn undo_levels(
     levels: usize,
 )
     requires { ⌜ Levels stride w h levels (now buf) (now a) (now b) ⌝ }
-    requires { ⌜ Below (2 ^ 22 - 1) w h (planeOf stride (now buf)) ⌝ }
-    ensures { λ _. ⌜ planeOf stride (now (buf .exit)) ≡ walkBack (line.back kernel) levels w h (planeOf stride (now (buf .entry))) ⌝ }
+    requires { ⌜ Below (2 ^ 22 - 1) w h (coefficientsOf stride (now buf)) ⌝ }
+    ensures { λ _. ⌜ coefficientsOf stride (now (buf .exit)) ≡ walkBack (line.back kernel) levels w h (coefficientsOf stride (now (buf .entry))) ⌝ }
 {
     if 0 < levels {
         undo_levels(kernel, buf, a, b, stride, w / 2, h / 2, levels - 1);
@@ -150,8 +151,8 @@ pub fn transform(
 
 fn undo_all(kernel: Kernel, levels: usize, w: usize, h: usize, plane: &[i32], undone: &mut [i32])
     requires { ⌜ Sized levels w h (length (now plane)) (length (now undone)) ⌝ }
-    requires { ⌜ Below (2 ^ 22 - 1) w h (planeOf w (now plane)) ⌝ }
-    ensures { λ _. ⌜ Result (pos 0) true (λ i. planes.undone kernel levels w h (planeOf w (now (plane .entry))) (i / w) (i % w)) (now (undone .entry)) (now (undone .exit)) ⌝ }
+    requires { ⌜ Below (2 ^ 22 - 1) w h (coefficientsOf w (now plane)) ⌝ }
+    ensures { λ _. ⌜ Result (pos 0) true (λ i. planes.undone kernel levels w h (coefficientsOf w (now (plane .entry))) (i / w) (i % w)) (now (undone .entry)) (now (undone .exit)) ⌝ }
 {
     transfer::numbers::take(plane, undone, 0, 1, w * h, 1);
     let mut a = [0i32; 32768];

@@ -1,4 +1,4 @@
--- Division of a whole number by a natural number, rounded towards minus infinity, for negative numbers too (document 01, "One line": floor).
+-- Division of a whole number by a natural number, rounded towards minus infinity, for negative numbers too (docs/FORMAT.md, "Terms and limits").
 --
 --   floorDiv z d == floor (z / d); −3 over 2 is −2
 --

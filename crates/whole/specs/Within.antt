@@ -1,6 +1,7 @@
--- Bounds on the magnitude of a whole number.
+-- Bounds on the magnitude of a whole number (docs/FORMAT.md, "Terms and limits").
 --
---   up z, dn z == the two parts of z, which is up z − dn z; one of them is 0
+--   up z       == z where it is not negative, else 0
+--   dn z       == −z where z is negative, else 0
 --   Within n z == |z| ≤ n
 --
 -- Assumes nothing: these are definitions.

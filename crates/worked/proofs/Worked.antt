@@ -1,12 +1,11 @@
--- Every starred example of document 01 holds of the definitions. Assumes nothing.
+-- Every worked example of the table holds of the definitions. Assumes nothing.
 use mathlib.Core.Path.{_≡_, refl}
 use mathlib.Core.List.{map}
 use Rattle.whole.specs.Floor.{floorDiv}
 use Rattle.line.specs.Cells.{joined}
 use Rattle.line.specs.Transform.{inside, predict, update, high, low, forward}
 use Rattle.line.specs.Mask.{anyBelow, mark, lowMark, highMark, maskLine}
-use Rattle.grid.specs.Picture.{onLine, rowPass, walk}
-use Rattle.grid.specs.Buffer.{picture}
+use Rattle.grid.specs.Picture.{onLine, rowPass, walk, picture}
 use Rattle.worked.specs.Examples.{examples, made, stated}
 
 pub worked : map made examples ≡ map stated examples

@@ -1,1 +1,1 @@
-// The worked examples of document 01 that are proved: a table, and one theorem.
+// The worked examples of docs/FORMAT.md that are proved: a table, and one theorem.

@@ -1,4 +1,4 @@
-// Runs the entries on the worked examples of document 01 that are not proved as theorems, and prints what they give.
+// Runs the entries on the worked examples of docs/FORMAT.md that are not proved as theorems, and prints what they give.
 use encoder::Outcome;
 use libc::STDOUT_FILENO;
 use refusal::Answer;
@@ -112,7 +112,7 @@ fn mask(kernel: usize) {
     text(b"mask, kernel");
     number(kernel as u64);
     text(b":");
-    answer(masking::mask(kernel, 1, 2, 2, &region, &mut mask));
+    answer(picture_mask::mask(kernel, 1, 2, 2, &region, &mut mask));
     four_bytes(&mask);
 }
 

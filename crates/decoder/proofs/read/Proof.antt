@@ -10,7 +10,7 @@ use Rattle.refusal.specs.declared.Refusal.the-variants.{Header, Version}
 use Rattle.refusal.proofs.Ordered.{told}
 use Rattle.header.specs.Header.{badHeader, badVersion}
 use Rattle.header.proofs.Parts.{good-long}
-use Rattle.shot.specs.Shots.{settingNumber}
+use Rattle.shot.specs.Inner.{settingNumber}
 use Rattle.decoder.proofs.Tests.{settingFirst, setting-of, header-first, version-first}
 use Rattle.decoder.proofs.Answered.{refused-answer, setting-refused, set-answer, entry}
 use Rattle.decoder.proofs.read.Statement.{statement}

@@ -6,13 +6,13 @@ use borrow.Author.Needs.{needs}
 use lib.IntN.{pos}
 use Rattle.grid.specs.Picture.{turned}
 use Rattle.grid.proofs.Running.{ColsPassed, cols-none, cols-more}
-use Rattle.passes.specs.Passes.{lineOf}
+use Rattle.passes.specs.Passes.{lineTransform}
 use Rattle.passes.proofs.Running.{line-local, area-same, col-strips, col-in, col-takes}
 use Rattle.passes.proofs.col_pass.Statement.{statement}
 use Rattle.passes.proofs.col_pass.Tie as tie
 
 abbrev Inv-loop : tie.InvT-loop
-Inv-loop kernel undo buf₀ a₀ b₀ stride w h x₀ buf a b x = ColsPassed (pos 0) (lineOf undo kernel) stride w h x buf₀ a₀ b₀ buf a b
+Inv-loop kernel undo buf₀ a₀ b₀ stride w h x₀ buf a b x = ColsPassed (pos 0) (lineTransform undo kernel) stride w h x buf₀ a₀ b₀ buf a b
 
 abbrev μ-loop : tie.MeasureT-loop
 μ-loop kernel undo buf₀ a₀ b₀ stride w h x₀ buf a b x = w - x

@@ -4,13 +4,13 @@ use mathlib.Core.Path.{_≡_}
 use Prim.Native.Nat.{_-_}
 use lib.IntN.{pos}
 use Rattle.grid.proofs.Running.{RowsPassed, rows-none, rows-more}
-use Rattle.passes.specs.Passes.{lineOf}
+use Rattle.passes.specs.Passes.{lineTransform}
 use Rattle.passes.proofs.Running.{line-local, area-same, row-strips, row-in, row-takes}
 use Rattle.passes.proofs.row_pass.Statement.{statement}
 use Rattle.passes.proofs.row_pass.Tie as tie
 
 abbrev Inv-loop : tie.InvT-loop
-Inv-loop kernel undo buf₀ a₀ b₀ stride w h y₀ buf a b y = RowsPassed (pos 0) (lineOf undo kernel) stride w h y buf₀ a₀ b₀ buf a b
+Inv-loop kernel undo buf₀ a₀ b₀ stride w h y₀ buf a b y = RowsPassed (pos 0) (lineTransform undo kernel) stride w h y buf₀ a₀ b₀ buf a b
 
 abbrev μ-loop : tie.MeasureT-loop
 μ-loop kernel undo buf₀ a₀ b₀ stride w h y₀ buf a b y = h - y

@@ -8,7 +8,7 @@ use lib.ListN.{length, getD}
 use mir.Syntax.{w32}
 use mir.Val.{toZ, ofZ}
 use mir.Facts.{toZ-ofZ}
-use Rattle.marking.specs.Marks.{marked}
+use Rattle.line.specs.Mask.{marked}
 use Rattle.refusal.proofs.Made.{Made, made-none, made-more, made-all}
 use Rattle.samples.specs.Samples.{truncated}
 use Rattle.samples.proofs.truncate_all.Statement.{statement}

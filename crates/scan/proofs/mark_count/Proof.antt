@@ -9,7 +9,7 @@ use borrow.Author.Tests.{eqb-true, eqb-false}
 use Rattle.line.proofs.Cells.{by-bool}
 use Rattle.bitplane.specs.Body.{class}
 use Rattle.bitplane.proofs.Classes.{class-on, class-off}
-use Rattle.scan.specs.Scan.{markCount}
+use Rattle.scan.specs.Inner.{markCount}
 use Rattle.scan.proofs.Running.{Counted, counted-none, counted-more, counted-all, counted-next}
 use Rattle.scan.proofs.mark_count.Statement.{statement}
 use Rattle.scan.proofs.mark_count.Tie as tie

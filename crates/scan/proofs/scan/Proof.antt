@@ -5,7 +5,7 @@ use native.Mathlib.Omega.{arith}
 use lib.Dec.{ltb}
 use lib.ListN.{length}
 use Rattle.whole.proofs.Linear.{reading}
-use Rattle.scan.specs.Scan.{signCount}
+use Rattle.scan.specs.Inner.{signCount}
 use Rattle.scan.proofs.Running.{Scanned, scanned-none, scanned-more, scanned-all, counted-all, counted-next}
 use Rattle.scan.proofs.scan.Statement.{statement}
 use Rattle.scan.proofs.scan.Tie as tie

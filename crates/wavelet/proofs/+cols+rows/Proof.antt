@@ -7,9 +7,9 @@ use lib.IntN.{ℤ}
 use borrow.Fn.Kinds.{In}
 use borrow.Fn.PlainCycle.{Measures, is, falls, and}
 use Rattle.line.specs.Transform.{forward}
-use Rattle.grid.specs.Picture.{Picture, colPass, low, walk}
+use Rattle.grid.specs.Picture.{Picture, colPass, lowSide, walk}
 use Rattle.grid.proofs.Levels.{walk-none, walk-more}
-use Rattle.wavelet.specs.Wavelet.{planeOf}
+use Rattle.wavelet.specs.Wavelet.{coefficientsOf}
 use Rattle.wavelet.proofs.Walking as walking
 use Rattle.wavelet.proofs.Walking.{levels-same, level-area, levels-more, rows-take, cols-take}
 use Rattle.wavelet.proofs.cols.Reads as cols
@@ -51,7 +51,7 @@ pub +cols+rows-spec : {M : Type 1} → statement M
     (λ c. c .before .before .before .rows .kept .1 .0 ∙ c .before .before .before .before .before .before .before .before .before .before .col-pass .kept .1 .1 .0)
     (λ c. c .before .before .before .rows .kept .1 .1 .0 ∙ c .before .before .before .before .before .before .before .before .before .before .col-pass .kept .1 .1 .1 .0)
     (λ c. c .before .before .before .rows .kept .1 .1 .1 .0 ∙ c .before .before .before .before .before .before .before .before .before .before .col-pass .kept .1 .1 .1 .1 .0)
-    (λ c. let a = c .before .before .before .before .before .before .before .before .before .before .before .before .before .before .args in c .before .before .before .rows .ensures ∙ ap (walk (forward (a .kernel)) (a .levels - 1) (low (a .w)) (low (a .h))) (c .before .before .before .before .before .before .before .before .before .before .col-pass .ensures)))
+    (λ c. let a = c .before .before .before .before .before .before .before .before .before .before .before .before .before .before .args in c .before .before .before .rows .ensures ∙ ap (walk (forward (a .kernel)) (a .levels - 1) (lowSide (a .w)) (lowSide (a .h))) (c .before .before .before .before .before .before .before .before .before .before .col-pass .ensures)))
     (λ t. rows-lts.spec (row-pass-reads.Asked, row-pass-reads.Learnt, cols-below t, cols.Post) (rows-at t) rows.Post
     (λ c κs. let s = c .before .before .before .before in let z = s .pre .1 .0 in let n = c .before .before .before .if1 .taken in (level-area z n, rows-take n (z .few) (s .pre .1 .1)))
     (λ c κs. let s = c .before .before .before .before .before .before .before .before .before .before .before in let z = s .pre .1 .0 in let n = c .before .before .before .before .before .before .before .before .before .before .if1 .taken in let p = c .before .before .before .before .before .before .row-pass in let k = p .kept .1 .1 in
@@ -60,6 +60,6 @@ pub +cols+rows-spec : {M : Type 1} → statement M
     (λ c. c .before .before .before .cols .kept .1 .1 .0 ∙ c .before .before .before .before .before .before .before .before .before .before .row-pass .kept .1 .1 .1 .0)
     (λ c. c .before .before .before .cols .kept .1 .1 .1 .0 ∙ c .before .before .before .before .before .before .before .before .before .before .row-pass .kept .1 .1 .1 .1 .0)
     (λ c. let a = c .before .before .before .before .before .before .before .before .before .before .before .before .before .before .before .args in let T = forward (a .kernel) in
-    c .before .before .before .cols .ensures ∙ ap (λ (P : Picture ℤ). walk T (a .levels - 1) (low (a .w)) (low (a .h)) (colPass T (a .w) (a .h) P)) (c .before .before .before .before .before .before .before .before .before .before .row-pass .ensures)
-    ∙ sym (walk-more T (a .levels) (a .w) (a .h) (planeOf (a .stride) (a .buf .now)) (c .before .before .before .before .before .before .before .before .before .before .before .before .before .before .if1 .taken)))
-    (λ c. let a = c .before .args in walk-none (forward (a .kernel)) (a .levels) (a .w) (a .h) (planeOf (a .stride) (a .buf .now)) (omega arith)))
+    c .before .before .before .cols .ensures ∙ ap (λ (P : Picture ℤ). walk T (a .levels - 1) (lowSide (a .w)) (lowSide (a .h)) (colPass T (a .w) (a .h) P)) (c .before .before .before .before .before .before .before .before .before .before .row-pass .ensures)
+    ∙ sym (walk-more T (a .levels) (a .w) (a .h) (coefficientsOf (a .stride) (a .buf .now)) (c .before .before .before .before .before .before .before .before .before .before .before .before .before .before .if1 .taken)))
+    (λ c. let a = c .before .args in walk-none (forward (a .kernel)) (a .levels) (a .w) (a .h) (coefficientsOf (a .stride) (a .buf .now)) (omega arith)))

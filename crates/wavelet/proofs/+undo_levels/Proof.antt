@@ -7,7 +7,7 @@ use borrow.Fn.PlainCycle.{Measures, is, falls, and}
 use Rattle.line.specs.Transform.{back}
 use Rattle.grid.specs.Picture.{rowPass, colPass}
 use Rattle.grid.proofs.Levels.{back-none, back-more}
-use Rattle.wavelet.specs.Wavelet.{planeOf}
+use Rattle.wavelet.specs.Wavelet.{coefficientsOf}
 use Rattle.wavelet.proofs.Walking.{levels-same, level-area, levels-more, quarter-below, cols-back, rows-back}
 use Rattle.wavelet.proofs.undo_levels.Reads as undo-levels
 use Rattle.wavelet.proofs.undo_levels.Kinds as undo-levels-kinds
@@ -43,5 +43,5 @@ pub +undo-levels-spec : {M : Type 1} → statement M
     (λ c. c .before .before .before .row-pass .kept .1 .1 .1 .1 .0 ∙ c .before .before .before .before .before .before .before .before .before .before .col-pass .kept .1 .1 .1 .1 .0 ∙ c .before .before .before .before .before .before .before .before .before .before .before .before .before .before .before .before .before .undo-levels .kept .1 .1 .1 .0)
     (λ c. let a = c .before .before .before .before .before .before .before .before .before .before .before .before .before .before .before .before .before .before .before .before .before .before .args in let U = back (a .kernel) in
     c .before .before .before .row-pass .ensures ∙ ap (rowPass U (a .w) (a .h)) (c .before .before .before .before .before .before .before .before .before .before .col-pass .ensures ∙ ap (colPass U (a .w) (a .h)) (c .before .before .before .before .before .before .before .before .before .before .before .before .before .before .before .before .before .undo-levels .ensures))
-    ∙ sym (back-more U (a .levels) (a .w) (a .h) (planeOf (a .stride) (a .buf .now)) (c .before .before .before .before .before .before .before .before .before .before .before .before .before .before .before .before .before .before .before .before .before .if1 .taken)))
-    (λ c. let a = c .before .args in back-none (back (a .kernel)) (a .levels) (a .w) (a .h) (planeOf (a .stride) (a .buf .now)) (omega arith)))
+    ∙ sym (back-more U (a .levels) (a .w) (a .h) (coefficientsOf (a .stride) (a .buf .now)) (c .before .before .before .before .before .before .before .before .before .before .before .before .before .before .before .before .before .before .before .before .before .if1 .taken)))
+    (λ c. let a = c .before .args in back-none (back (a .kernel)) (a .levels) (a .w) (a .h) (coefficientsOf (a .stride) (a .buf .now)) (omega arith)))
