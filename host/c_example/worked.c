@@ -1,5 +1,5 @@
-/* The worked shot of document 01 through the C interface, from C: each function is called once, and what it gives is compared with
-   the document. Prints a line for each step that is wrong, and 'N passed, M failed'.
+/* The worked streams of docs/FORMAT.md through the C interface, from C: each function is called at least once, and what it gives is
+   compared with that page. Prints a line for each step that is wrong, and 'N passed, M failed'.
    Build: cc -std=c11 -I host/include host/c_example/worked.c target/staticlib/libinterface.a */
 #include <stdio.h>
 #include <string.h>
@@ -62,9 +62,77 @@ static void check_streams(void) {
     expect(dhiirqobaal_body(written, 24, results, 2) == 0 && results[0] == 22 && results[1] == 2, "body");
 }
 
+/* The worked stream with another last byte, and without its rectangle. */
+static void check_changed(void) {
+    const int32_t rest[4] = {6, 0, 4, 0};
+    const uint8_t bare[15] = {0x00, 0x00, 0x00, 0x0b, 0x01, 0x00, 0x01, 0x08, 0x00, 0x02, 0x00, 0x02, 0x00, 0x03, 0x92};
+    uint8_t stream[24], mask[4];
+    int32_t plane[4];
+    uint64_t results[4];
+    memcpy(stream, written, 24);
+    stream[23] = 0x00;
+    expect(dhiirqobaal_read(stream, 24, plane, 4, mask, 4, results, 4) == 0, "last byte 00");
+    expect(memcmp(plane, rest, sizeof plane) == 0, "last byte 00: plane");
+    stream[23] = 0x01;
+    expect(dhiirqobaal_read(stream, 24, plane, 4, mask, 4, results, 4) == 16, "last byte 01");
+    expect(dhiirqobaal_read(bare, 15, plane, 4, mask, 4, results, 4) == 0, "no rectangle, 15 bytes");
+    expect(memcmp(plane, rest, sizeof plane) == 0, "no rectangle, 15 bytes: plane");
+    expect(results[0] == 0 && results[1] == 1 && results[2] == 14 && results[3] == 2, "no rectangle, 15 bytes: numbers");
+    expect(dhiirqobaal_transform(0, 1, 3, 2, 2, samples, 4, plane, 4) == 6, "a sample above the depth");
+}
+
+/* Kernel 3, two levels, depth 8, 8 by 4 samples, the rectangle 6 2 1 2. */
+static const uint16_t wide_samples[32] = {
+    12, 12, 14, 90, 200, 40, 41, 43, 12, 13, 20, 120, 220, 60, 44, 40,
+    13, 16, 60, 180, 90, 50, 46, 45, 15, 15, 15, 16, 14, 15, 16, 15};
+static const uint32_t wide_numbers[4] = {6, 2, 1, 2};
+static const uint8_t wide_written[54] = {
+    0x00, 0x00, 0x00, 0x32, 0x01, 0x03, 0x02, 0x08, 0x00, 0x08, 0x00, 0x04, 0x01, 0x07,
+    0x00, 0x06, 0x00, 0x02, 0x00, 0x01, 0x00, 0x02, 0x9a, 0x80, 0x3f, 0xc0, 0x1b, 0xcd,
+    0xcb, 0x01, 0x3f, 0x3e, 0x18, 0xf9, 0x5b, 0x28, 0x31, 0x01, 0xec, 0xc8, 0x26, 0x5c,
+    0xa3, 0x82, 0x09, 0x9d, 0x80, 0x8e, 0x19, 0xad, 0x18, 0x17, 0x60, 0x34};
+/* Shown of the stream cut to its region mark; 46 and 16 stand in the rectangle. */
+static const uint16_t wide_cut_shown[32] = {
+    56, 37, 18, 110, 202, 121, 19, 21, 27, 31, 36, 98, 160, 69, 33, 29,
+    0, 26, 54, 80, 106, 58, 46, 45, 0, 26, 54, 78, 102, 59, 16, 15};
+
+/* What of a stream's first bytes, with the length field mended, is read: marks, whole, region mark, q. */
+static int arrives(size_t length, uint64_t whole, uint64_t region_mark, uint64_t q) {
+    uint8_t part[54], mask[32];
+    int32_t plane[32];
+    uint64_t results[4];
+    memcpy(part, wide_written, length);
+    part[3] = (uint8_t)(length - 4);
+    return dhiirqobaal_read(part, length, plane, 32, mask, 32, results, 4) == 0 && results[0] == 14 &&
+           results[1] == whole && results[2] == region_mark && results[3] == q;
+}
+
+static void check_cuts(void) {
+    uint8_t mask[32], stream[54], cut[36];
+    int32_t plane[32], undone[32];
+    uint16_t shown[32];
+    uint64_t results[3];
+    expect(dhiirqobaal_transform(3, 2, 8, 8, 4, wide_samples, 32, plane, 32) == 0, "8 by 4: transform");
+    expect(dhiirqobaal_write(plane, 32, wide_numbers, 4, 3, 2, 8, 8, 4, mask, 32, stream, 54, results, 3) == 0, "8 by 4: write");
+    expect(results[0] == 54 && results[1] == 36 && results[2] == 14, "8 by 4: lengths and marks");
+    expect(memcmp(stream, wide_written, 54) == 0, "8 by 4: stream");
+    expect(arrives(28, 0, 0, 7), "8 by 4: 28 bytes");
+    expect(arrives(36, 1, 36, 7), "8 by 4: 36 bytes");
+    expect(arrives(37, 1, 36, 7), "8 by 4: 37 bytes");
+    expect(arrives(39, 1, 36, 6), "8 by 4: 39 bytes");
+    expect(arrives(54, 1, 36, 0), "8 by 4: 54 bytes");
+    expect(dhiirqobaal_cut(stream, 54, 36, plane, 32, mask, 32, cut, 36, results, 1) == 0, "8 by 4: cut");
+    expect(dhiirqobaal_read(cut, 36, plane, 32, mask, 32, results, 3) == 0, "8 by 4: cut read");
+    expect(dhiirqobaal_undo(3, 2, 8, 4, plane, 32, undone, 32) == 0, "8 by 4: cut undone");
+    expect(dhiirqobaal_show(8, 8, 4, undone, 32, shown, 32) == 0, "8 by 4: cut shown");
+    expect(memcmp(shown, wide_cut_shown, sizeof shown) == 0, "8 by 4: shown samples");
+}
+
 int main(void) {
     check_pictures();
     check_streams();
+    check_changed();
+    check_cuts();
     printf("%d passed, %d failed\n", passed, failed);
     return failed != 0;
 }

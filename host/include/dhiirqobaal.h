@@ -1,7 +1,8 @@
 /*
  * dhiirqobaal.h: the C interface of Dhiirqobaal, a codec for exact-region panel shots.
  *
- * The library is target/staticlib/libinterface.a, for x86-64, made by `rt staticlib interface`.
+ * The library is target/staticlib/libinterface.a, for x86-64, made by `rt staticlib interface`. docs/FORMAT.md has the
+ * format with its formulas and worked examples.
  *
  * TERMS
  *   W, H       width and height of a picture, 1 to 4,096 each
@@ -15,7 +16,7 @@
  *   undone     what undoing a plane gives: whole numbers of either sign, not yet brought into range
  *   T          bit planes in a stream, 0 to 22: the binary digits of the largest magnitude
  *   q          planes of the unmarked coefficients that were dropped or did not arrive
- *   region mark  the length to which a stream can be cut with every region sample kept exact
+ *   region mark  the least length to which a stream can be cut with every region sample kept exact
  * Pictures, regions, masks, planes and undone numbers are stored row by row, W * H elements each.
  *
  * BUFFERS

@@ -1,5 +1,6 @@
-//! The exact-region panel shot, written from document 01 alone and for
-//! comparison alone: direct code, no care for time or space.
+//! The exact-region panel shot a second time, written without a look at the
+//! proved code and for comparison alone: direct code, no care for time or
+//! space. docs/FORMAT.md has its terms.
 //!
 //! Every function takes the parameters of the C interface's function of that
 //! name, a slice for each pointer and length, and returns the refusal's
@@ -24,7 +25,7 @@ fn put(results: &mut [u64], numbers: &[u64]) {
     }
 }
 
-/// Back to 32 bits; document 01's limits keep every number within them.
+/// Back to 32 bits; the format's limits keep every number within them.
 fn narrow(numbers: &[i64], out: &mut [i32]) {
     for (cell, &number) in out.iter_mut().zip(numbers) {
         *cell = i32::try_from(number).expect("an accepted plane stays in 32 bits");

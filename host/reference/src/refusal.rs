@@ -1,4 +1,4 @@
-//! The refusals of document 01, one function each. A call tests those that it
+//! The refusals (docs/FORMAT.md), one function each. A call tests those that it
 //! has, in the order 12, 13, 1, 2, 3, 4, 7, 8, 14, 5, 6, 9, 10, 16, 15, 11.
 
 /// A refusal's number, or nothing.

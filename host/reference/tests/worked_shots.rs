@@ -1,4 +1,4 @@
-//! The worked shots of document 01 through the public functions, and the
+//! The worked examples of docs/FORMAT.md through the public functions, and the
 //! refusals and buffer contents that it fixes beside them.
 
 use reference::READ_RESULTS;
