@@ -53,6 +53,7 @@ static void check_streams(void) {
     expect(memcmp(stream, written, 24) == 0, "stream");
     expect(dhiirqobaal_write(coefficients, 4, numbers, 4, 0, 1, 8, 2, 2, mask, 4, stream, 23, results, 3) == 11, "no room");
     expect(results[0] == 24 && results[1] == 0 && results[2] == 0, "needed length");
+    expect(mask[0] == 1 && mask[1] == 1 && mask[2] == 1 && mask[3] == 1, "no room: mask");
     expect(dhiirqobaal_read(written, 24, plane, 4, mask, 4, results, 139) == 0, "read");
     expect(memcmp(results, read_numbers, sizeof read_numbers) == 0, "numbers read");
     expect(memcmp(plane, coefficients, sizeof plane) == 0, "plane read");
@@ -91,20 +92,26 @@ static const uint8_t wide_written[54] = {
     0x00, 0x06, 0x00, 0x02, 0x00, 0x01, 0x00, 0x02, 0x9a, 0x80, 0x3f, 0xc0, 0x1b, 0xcd,
     0xcb, 0x01, 0x3f, 0x3e, 0x18, 0xf9, 0x5b, 0x28, 0x31, 0x01, 0xec, 0xc8, 0x26, 0x5c,
     0xa3, 0x82, 0x09, 0x9d, 0x80, 0x8e, 0x19, 0xad, 0x18, 0x17, 0x60, 0x34};
-/* Shown of the stream cut to its region mark; 46 and 16 stand in the rectangle. */
+static const uint8_t wide_mask[32] = {
+    0, 1, 1, 1, 0, 0, 0, 0, 0, 1, 1, 1, 0, 0, 1, 1,
+    0, 0, 0, 1, 0, 0, 1, 1, 0, 0, 0, 1, 0, 0, 1, 1};
+/* Undone, then shown, of the stream cut to its region mark; 46 and 16 stand in the rectangle. */
+static const int32_t wide_cut_undone[32] = {
+    56, 37, 18, 110, 202, 121, 19, 21, 27, 31, 36, 98, 160, 69, 33, 29,
+    -2, 26, 54, 80, 106, 58, 46, 45, -2, 26, 54, 78, 102, 59, 16, 15};
 static const uint16_t wide_cut_shown[32] = {
     56, 37, 18, 110, 202, 121, 19, 21, 27, 31, 36, 98, 160, 69, 33, 29,
     0, 26, 54, 80, 106, 58, 46, 45, 0, 26, 54, 78, 102, 59, 16, 15};
 
-/* What of a stream's first bytes, with the length field mended, is read: marks, whole, region mark, q. */
-static int arrives(size_t length, uint64_t whole, uint64_t region_mark, uint64_t q) {
+/* What of the stream's first bytes, with the length field mended, is read: whole, region mark, q, and one coefficient. */
+static int arrives(size_t length, uint64_t whole, uint64_t region_mark, uint64_t q, size_t at, int32_t coefficient) {
     uint8_t part[54], mask[32];
     int32_t plane[32];
     uint64_t results[4];
     memcpy(part, wide_written, length);
     part[3] = (uint8_t)(length - 4);
     return dhiirqobaal_read(part, length, plane, 32, mask, 32, results, 4) == 0 && results[0] == 14 &&
-           results[1] == whole && results[2] == region_mark && results[3] == q;
+           results[1] == whole && results[2] == region_mark && results[3] == q && plane[at] == coefficient;
 }
 
 static void check_cuts(void) {
@@ -116,14 +123,17 @@ static void check_cuts(void) {
     expect(dhiirqobaal_write(plane, 32, wide_numbers, 4, 3, 2, 8, 8, 4, mask, 32, stream, 54, results, 3) == 0, "8 by 4: write");
     expect(results[0] == 54 && results[1] == 36 && results[2] == 14, "8 by 4: lengths and marks");
     expect(memcmp(stream, wide_written, 54) == 0, "8 by 4: stream");
-    expect(arrives(28, 0, 0, 7), "8 by 4: 28 bytes");
-    expect(arrives(36, 1, 36, 7), "8 by 4: 36 bytes");
-    expect(arrives(37, 1, 36, 7), "8 by 4: 37 bytes");
-    expect(arrives(39, 1, 36, 6), "8 by 4: 39 bytes");
-    expect(arrives(54, 1, 36, 0), "8 by 4: 54 bytes");
+    expect(memcmp(mask, wide_mask, 32) == 0, "8 by 4: mask");
+    /* -25 and 68 without their signs are 0 */
+    expect(arrives(28, 0, 0, 7, 27, 0), "8 by 4: 28 bytes");
+    expect(arrives(36, 1, 36, 7, 27, -25), "8 by 4: 36 bytes");
+    expect(arrives(37, 1, 36, 7, 13, 0), "8 by 4: 37 bytes");
+    expect(arrives(39, 1, 36, 6, 13, 64), "8 by 4: 39 bytes");
+    expect(arrives(54, 1, 36, 0, 13, 68), "8 by 4: 54 bytes");
     expect(dhiirqobaal_cut(stream, 54, 36, plane, 32, mask, 32, cut, 36, results, 1) == 0, "8 by 4: cut");
     expect(dhiirqobaal_read(cut, 36, plane, 32, mask, 32, results, 3) == 0, "8 by 4: cut read");
     expect(dhiirqobaal_undo(3, 2, 8, 4, plane, 32, undone, 32) == 0, "8 by 4: cut undone");
+    expect(memcmp(undone, wide_cut_undone, sizeof undone) == 0, "8 by 4: undone numbers");
     expect(dhiirqobaal_show(8, 8, 4, undone, 32, shown, 32) == 0, "8 by 4: cut shown");
     expect(memcmp(shown, wide_cut_shown, sizeof shown) == 0, "8 by 4: shown samples");
 }

@@ -72,7 +72,9 @@ def uses(text):
 
 
 def words(text):
-    return re.findall(r'[^\s(){};,]+', text)
+    """The words of a text, but for the fields of records: `pub NAME :`, `NAME = ..` and `.NAME`."""
+    text = re.sub(r'^  pub \S+ :|(?<!\S)\S+ =(?= )', '', text, flags=re.M)
+    return [word for word in re.findall(r'[^\s(){};,]+', text) if not word.startswith('.')]
 
 
 Type = namedtuple('Type', 'path line said lines')
@@ -136,8 +138,6 @@ class Reader:
         found = []
         for word in words(text):
             alias, _, rest = word.partition('.')
-            if word.startswith('.'):
-                continue
             if rest and alias in aliases:
                 found.append(self.name(aliases[alias], rest))
             elif local and word in local.definitions:
@@ -162,8 +162,10 @@ class Reader:
         definitions = self.modules[crate, inside].definitions
         if name in definitions:
             return self.define(definitions[name])
-        holders = [d for d in definitions.values() if re.search(rf'^  {re.escape(name)} :', d.text, re.M)]
-        return self.define(holders[0])
+        for holder in definitions.values():
+            if re.search(rf'^  {re.escape(name)} :', holder.text, re.M):
+                return self.define(holder)
+        raise Failure(f'{name} is not in {self.modules[crate, inside].path}')
 
     def define(self, definition):
         if definition not in self.believed:
@@ -193,6 +195,8 @@ class Reader:
         path = f'crates/{crate}/src/lib.rt'
         text = read(path)
         found = re.search(rf'^pub (?:extern "C" )?fn {function}\(.*?^\{{', text, re.M | re.S)
+        if not found:
+            raise Failure(f'{path} has no entry {function}')
         if 'requires' in found[0]:
             raise Failure(f'{crate}::{function} has a requires')
         for result in re.findall(r'\) -> ([A-Z]\w+)\n', found[0]):

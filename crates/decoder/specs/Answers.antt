@@ -10,7 +10,6 @@ use lib.ListN.{length, getD}
 use Rattle.line.specs.Cells.{listed}
 use Rattle.refusal.specs.Numbers.{refusalNumber}
 use Rattle.header.specs.Fields.{Shot}
-use Rattle.shot.specs.Shots.{marks}
 use Rattle.codestream.specs.Reading.{Numbers}
 use Rattle.decoder.specs.declared.Header.{Header}
 use Rattle.decoder.specs.declared.Outcome.{Outcome}

@@ -4,8 +4,6 @@
 --
 -- Assumes nothing: these are definitions.
 use Rattle.refusal.specs.Numbers.{refusalNumber}
-use Rattle.shot.specs.Shots.{marks}
-use Rattle.codestream.specs.Stream.{regionMark}
 use Rattle.codestream.specs.Writing.{Numbers}
 use Rattle.encoder.specs.declared.Outcome.{Outcome}
 use Rattle.encoder.specs.declared.Outcome.the-variants.{Written, TooShort, Refused}

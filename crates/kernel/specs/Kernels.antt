@@ -2,8 +2,8 @@
 --
 --   S, SPlusP, TT, FiveThree == kernels 0 to 3: S, S+P (A), TT and the 5/3 of T.800
 --   kernelOf n               == the kernel of number n, or a refusal
---   kernelTaken c            == the kernel of an answer, where there is one
---   theKernel n              == the kernel of number n, where there is one
+--   kernelTaken c            == the kernel of an answer, S where it is a refusal
+--   theKernel n              == the kernel of number n, S where there is none
 --   reach k                  == the reach of kernel k, 0, 1, 2 and 1
 --
 -- Assumes nothing: these are definitions.

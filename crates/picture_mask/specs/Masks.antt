@@ -1,9 +1,9 @@
 -- The mask of a region, in bytes (docs/FORMAT.md, "Region and mask" and "Calls").
 --
---   regionOf W l         == the region that a buffer of rows of W bytes holds
---   maskAt k J W H l i   == the mask's byte at place i of rows of W, of the region that l holds
---   maskByte n J W H l i == that, for the kernel of number n
---   maskTests            == the refusals of the call, in order: 1, 2, 4, 5, 9
+--   regionOf W l          == the region that a buffer of rows of W bytes holds
+--   maskAt k J W H l i    == the mask's byte at place i of rows of W, of the region that l holds
+--   maskByte n J W H l i  == that, for the kernel of number n
+--   maskTests k J W H l n == the refusals of the call, in order: 1, 2, 4, 5, 9
 --
 -- Assumes nothing: these are definitions.
 use mathlib.Core.Bool.{Bool}

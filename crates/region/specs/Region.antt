@@ -4,7 +4,7 @@
 --   inRectangle l r x y == column x and row y are inside rectangle r of the numbers l, four a rectangle: x, y, width, height
 --   inRegion l x y      == they are inside any rectangle
 --   regionByte l W i    == the region's byte at place i of rows of W
---   regionTests         == the refusals of the call, in order: 4, 7, 8, 5
+--   regionTests l W H n == the refusals of the call, in order: 4, 7, 8, 5
 --
 -- Assumes nothing: these are definitions.
 use mathlib.Core.Bool.{Bool, _&&_}

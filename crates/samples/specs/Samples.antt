@@ -1,9 +1,9 @@
 -- Bringing undone numbers into range, and dropping planes (docs/FORMAT.md, "Showing", "Truncation" and "Calls").
 --
---   inRange D z     == z brought into 0 .. 2^D − 1: below to 0, above to the top
---   truncated q m z == z, where it is marked, else dropped q z
---   showTests       == the refusals of showing, in order: 3, 4, 5
---   truncateTests   == the refusals of truncation: 3, 4, 5, 9, 10
+--   inRange D z             == z brought into 0 .. 2^D − 1: below to 0, above to the top
+--   truncated q m z         == z, where it is marked, else dropped q z
+--   showTests D W H n m     == the refusals of showing, in order: 3, 4, 5
+--   truncateTests q W H l p == the refusals of truncation, of the mask l and the plane p: 3, 4, 5, 9, 10
 --
 -- Assumes nothing: these are definitions.
 use mathlib.Core.Bool.{Bool}

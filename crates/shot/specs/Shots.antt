@@ -1,11 +1,11 @@
 -- A shot: its setting, its rectangles and the mask that they make (docs/FORMAT.md, "Region and mask" and "Refusals").
 --
---   drawn l             == the region of the rectangle numbers l, a mark a sample
---   maskBytes k J W H l == the mask of that region, a byte a coefficient, row by row
---   shotMask s          == the mask of a shot
---   marks s             == the number of its marks
---   settingTests        == the refusals of a setting, in order: 1, 2, 3, 4
---   rectangleTests      == the refusals of rectangles: 7, 8
+--   drawn l                == the region of the rectangle numbers l, a mark a sample
+--   maskBytes k J W H l    == the mask of that region, a byte a coefficient, row by row
+--   shotMask s             == the mask of a shot
+--   marks s                == the number of its marks
+--   settingTests k J D W H == the refusals of a setting, in order: 1, 2, 3, 4
+--   rectangleTests W H l   == the refusals of rectangles: 7, 8
 --
 -- Assumes nothing: these are definitions.
 use mathlib.Core.Bool.{Bool}

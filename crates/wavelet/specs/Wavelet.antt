@@ -1,11 +1,11 @@
 -- The entries that transform a picture and undo a plane: what they leave in the lent buffer, and their refusals (docs/FORMAT.md, "Levels" and "Calls").
 --
---   samplesOf W l      == the picture of the samples in a buffer of rows of W
---   coefficientsOf W l == the plane of the coefficients in a buffer of rows of W
---   coefficient        == the coefficient at place i of the plane of a picture
---   undoneNumber       == the undone number at place i
---   transformTests     == the refusals of transforming, in order: 1, 2, 3, 4, 5, 6
---   undoTests          == the refusals of undoing: 1, 2, 4, 5, 10
+--   samplesOf W l                == the picture of the samples in a buffer of rows of W
+--   coefficientsOf W l           == the plane of the coefficients in a buffer of rows of W
+--   coefficient k J W H l i      == the coefficient at place i of the plane of a picture
+--   undoneNumber k J W H l i     == the undone number at place i
+--   transformTests k J D W H l n == the refusals of transforming, in order: 1, 2, 3, 4, 5, 6
+--   undoTests k J W H l n        == the refusals of undoing: 1, 2, 4, 5, 10
 --
 -- Assumes nothing: these are definitions.
 use mathlib.Core.List.{List, [], _∷_}
