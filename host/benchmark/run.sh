@@ -1,14 +1,18 @@
 #!/bin/sh
-# Builds the static library and the benchmark for release, runs it and writes
-# docs/BENCHMARKS.md. If INTERFACE_LIBRARY names a library, that one is taken.
+# Builds the static libraries and, for release, the benchmark, the comparison
+# with the earlier passes and the measuring of the stack, runs them and writes
+# docs/BENCHMARKS.md. If INTERFACE_LIBRARY or COMPARISON_LIBRARY names a library,
+# that one is taken.
 set -eu
 
 root=$(cd "$(dirname "$0")/../.." && pwd)
 cd "$root"
 
 [ -n "${INTERFACE_LIBRARY:-}" ] || rt staticlib interface
+[ -n "${COMPARISON_LIBRARY:-}" ] || rt staticlib comparison
 
-CARGO_TARGET_DIR=$root/target/host cargo build --release --offline --quiet -j 2 --manifest-path host/Cargo.toml -p benchmark
+CARGO_TARGET_DIR=$root/target/host cargo build --release --offline --quiet -j 2 --manifest-path host/Cargo.toml \
+    -p benchmark -p comparison
 
 # OpenJPEG's 5/3 is called inside the archive, since the shared library hides
 # it; outside_53.c knows the records of version 2.5.0 alone.
@@ -52,6 +56,8 @@ machine() {
 mkdir -p docs
 out=docs/BENCHMARKS.md
 tables=$(target/host/release/benchmark)
+earlier=$(target/host/release/comparison)
+stack=$(INTERFACE_LIBRARY=${INTERFACE_LIBRARY:-$root/target/staticlib/libinterface.a} host/stack/run.sh || true)
 {
     echo "# Benchmarks"
     echo
@@ -60,7 +66,8 @@ tables=$(target/host/release/benchmark)
     echo "- library: the static library of the C interface, with every test that it makes of its arguments."
     echo "- reference: host/reference, plain Rust written for clearness, built for release."
     echo "- OpenJPEG: its 5/3 on the same picture with rows and columns exchanged, in place on 32-bit numbers, without any test."
-    echo "- copy: the floor. The same buffers copied once: transform, each sample into its coefficient's cell; undo, plane into undone; write and read, plane, mask and stream."
+    echo "- copy: the floor. The same buffers copied once: transform, each sample into its coefficient's cell; undo, plane into undone; mask, region into mask; write and read, plane, mask and stream."
+    echo "- mask: the region is eight rectangles over a tenth of the picture."
     echo "- write and read: kernel 2, five levels, the plane of the same picture; the writer derives the mask, and so does the reader."
     echo
     echo "## Machine"
@@ -68,5 +75,17 @@ tables=$(target/host/release/benchmark)
     machine
     echo
     echo "$tables"
+    echo
+    echo "## Earlier passes"
+    echo
+    echo "One level over a 2,048 by 2,048 picture, by the passes before paper 3 of document 02 (crates/earlier_passes) and by the library's; planes and undone numbers were the same."
+    echo
+    echo "$earlier" | grep '^|'
+    echo
+    echo "## Stack"
+    echo
+    echo "The deepest that each C function was seen to go on pictures of 4,096 by 4,096 with five levels, over all kernels, and the limit that the C header states. Below 256 bytes nothing is told apart."
+    echo
+    echo "$stack" | grep '^|'
 } >"$out"
 echo "wrote $out"

@@ -23,7 +23,8 @@
  * A buffer is a pointer followed by its number of ELEMENTS (not bytes). The pointer is never null, not even for an
  * empty buffer, is aligned for its element, and leads to that many initialised elements. A buffer that is written
  * overlaps no other buffer of the call. Nothing is kept after a call. No buffer is lengthened or shortened.
- * A call may keep several hundred kilobytes of working memory on the stack; it allocates nothing.
+ * A call allocates nothing; it keeps its working memory on the stack, at most as much as its description says
+ * (measured by host/stack on pictures of 4,096 by 4,096 with five levels).
  *
  * REFUSALS
  * Every function returns 0 (accepted) or the number of a refusal. No input has to be tested before a call. A
@@ -163,6 +164,7 @@ enum dhiirqobaal_body_result {
  *   region   written, W * H bytes
  * Refusals in their order: 4, 7, 8, 5 (region).
  * Accepted: region is 1 at every sample inside any rectangle and 0 at all others. Under each refusal: as it was.
+ * It needs at most 1 KiB of stack.
  */
 uint64_t dhiirqobaal_region(const uint32_t *numbers, size_t numbers_len, size_t w, size_t h, uint8_t *region,
                             size_t region_len);
@@ -174,6 +176,7 @@ uint64_t dhiirqobaal_region(const uint32_t *numbers, size_t numbers_len, size_t 
  *   mask                  written, W * H bytes
  * Refusals in their order: 1, 2, 4, 5 (region or mask), 9 (region).
  * Accepted: mask is the mask of the region after J levels, 0 or 1 each. Under each refusal: as it was.
+ * It needs at most 40 KiB of stack.
  */
 uint64_t dhiirqobaal_mask(size_t kernel, size_t levels, size_t w, size_t h, const uint8_t *region, size_t region_len,
                           uint8_t *mask, size_t mask_len);
@@ -186,6 +189,7 @@ uint64_t dhiirqobaal_mask(size_t kernel, size_t levels, size_t w, size_t h, cons
  * Refusals in their order: 1, 2, 3, 4, 5 (samples or plane), 6.
  * Accepted: plane holds the coefficients after J levels; they are accepted ones, and dhiirqobaal_undo gives the
  * samples back. Under each refusal: as it was.
+ * It needs at most 140 KiB of stack.
  */
 uint64_t dhiirqobaal_transform(size_t kernel, size_t levels, size_t depth, size_t w, size_t h,
                                const uint16_t *samples, size_t samples_len, int32_t *plane, size_t plane_len);
@@ -197,6 +201,7 @@ uint64_t dhiirqobaal_transform(size_t kernel, size_t levels, size_t depth, size_
  *   undone                written, W * H whole numbers of either sign; dhiirqobaal_show brings them into range
  * Refusals in their order: 1, 2, 4, 5 (plane or undone), 10.
  * Accepted: undone holds the numbers after all J levels are undone. Under each refusal: as it was.
+ * It needs at most 48 KiB of stack.
  */
 uint64_t dhiirqobaal_undo(size_t kernel, size_t levels, size_t w, size_t h, const int32_t *plane, size_t plane_len,
                           int32_t *undone, size_t undone_len);
@@ -209,6 +214,7 @@ uint64_t dhiirqobaal_undo(size_t kernel, size_t levels, size_t w, size_t h, cons
  * Refusals in their order: 3, 4, 5 (undone or shown).
  * Accepted: shown is 0 for a number below 0, 2^D - 1 for one above that, else the number. Under each refusal: as it
  * was.
+ * It needs at most 48 KiB of stack.
  */
 uint64_t dhiirqobaal_show(size_t depth, size_t w, size_t h, const int32_t *undone, size_t undone_len,
                           uint16_t *shown, size_t shown_len);
@@ -222,6 +228,7 @@ uint64_t dhiirqobaal_show(size_t depth, size_t w, size_t h, const int32_t *undon
  * Refusals in their order: 3 (q above 22), 4, 5 (mask or plane), 9 (mask), 10.
  * Accepted: a coefficient c whose mask byte is 0 becomes its sign times floor(|c| / 2^q) * 2^q; one whose mask byte is
  * 1 stays. Under each refusal: plane as it was.
+ * It needs at most 1 KiB of stack.
  */
 uint64_t dhiirqobaal_truncate(size_t q, size_t w, size_t h, const uint8_t *mask, size_t mask_len, int32_t *plane,
                               size_t plane_len);
@@ -240,6 +247,7 @@ uint64_t dhiirqobaal_truncate(size_t q, size_t w, size_t h, const uint8_t *mask,
  * Under 11: mask holds the mask, stream holds what it held, results[0] is the needed length, results[1] and
  * results[2] are 0. A call with an empty stream buffer thus asks for the length.
  * Under 1, 2, 3, 4, 7, 8, 5 and 10: mask and stream hold what they held, results[0] to results[2] are 0.
+ * It needs at most 40 KiB of stack.
  */
 uint64_t dhiirqobaal_write(const int32_t *plane, size_t plane_len, const uint32_t *numbers, size_t numbers_len,
                            size_t kernel, size_t levels, size_t depth, size_t w, size_t h, uint8_t *mask,
@@ -260,6 +268,7 @@ uint64_t dhiirqobaal_write(const int32_t *plane, size_t plane_len, const uint32_
  * were not wholly received: T if the marked part is not whole; 0 if it is and nothing is unmarked.
  * Under 16: plane and mask are all 0, the 139 result numbers are 0.
  * Under 12, 13, 1, 2, 3, 4, 7, 8, 14 and 5: plane and mask hold what they held, the 139 result numbers are 0.
+ * It needs at most 40 KiB of stack.
  */
 uint64_t dhiirqobaal_read(const uint8_t *stream, size_t stream_len, int32_t *plane, size_t plane_len, uint8_t *mask,
                           size_t mask_len, uint64_t *results, size_t results_len);
@@ -282,6 +291,7 @@ uint64_t dhiirqobaal_read(const uint8_t *stream, size_t stream_len, int32_t *pla
  * Under 11: the same, but results[0] is the needed length, `wanted`.
  * Under 16: out holds what it held; plane and mask are all 0; results[0] is 0.
  * Under 12, 13, 1, 2, 3, 4, 7, 8, 14 and 5: out, plane and mask hold what they held; results[0] is 0.
+ * It needs at most 40 KiB of stack.
  */
 uint64_t dhiirqobaal_cut(const uint8_t *stream, size_t stream_len, size_t wanted, int32_t *plane, size_t plane_len,
                          uint8_t *mask, size_t mask_len, uint8_t *out, size_t out_len, uint64_t *results,
@@ -295,6 +305,7 @@ uint64_t dhiirqobaal_cut(const uint8_t *stream, size_t stream_len, size_t wanted
  * Refusals in their order: 12, 13.
  * Accepted: the body is stream[results[0]] to stream[results[0] + results[1] - 1]. Under each refusal both result
  * numbers are 0. The stream is not written.
+ * It needs at most 1 KiB of stack.
  */
 uint64_t dhiirqobaal_body(const uint8_t *stream, size_t stream_len, uint64_t *results, size_t results_len);
 

@@ -7,13 +7,14 @@ use native.Mathlib.Omega.{arith}
 use lib.Dec.{ltb, eqb}
 use borrow.Author.Tests.{lt-ltb, le-ltb, eq-eqb, ne-eqb}
 use Rattle.line.specs.Cells.{choose}
-use Rattle.refusal.specs.Numbers.{test, first, accepted}
-use Rattle.refusal.specs.Tests.{badLength, badNumbers, badRectangles, badSizeAt}
-use Rattle.refusal.proofs.Ordered.{here, next, is, isnt, numbered, first-append, passes-test}
+use Rattle.refusal.specs.Numbers.{test, first}
+use Rattle.refusal.specs.Tests.{badLength, badNumbers, badRectangles}
+use Rattle.refusal.proofs.Ordered.{here, next, is, isnt, numbered, first-append}
 use Rattle.header.specs.Header.{number, badHeader, badVersion}
 use Rattle.header.specs.Fields.{numbers, shotOf}
 use Rattle.shot.specs.Shots.{settingTests}
 use Rattle.codestream.specs.Reading.{badPlanes, otherTests, fillingTest, readTests}
+use Rattle.codestream.proofs.Accepted.{Setting, setting-passed}
 use Rattle.decoder.proofs.Arrays.{numbers-length}
 
 -- the numbers of a header are four a rectangle
@@ -62,10 +63,8 @@ abbrev pub settingFirst : List ℕ → ℕ
 settingFirst l = let s = shotOf l in first (settingTests (s .kernel) (s .levels) (s .depth) (s .width) (s .height))
 
 module _ (k J D W H : ℕ) where
-  pub setting-size : 0 ≡ first (settingTests k J D W H) → badSizeAt J W H ≡ false
-  setting-size e =
-      let a : accepted (settingTests k J D W H) ≡ true = ap (λ (x : ℕ). eqb x 0) (sym e) in
-      passes-test _ 3 _ (passes-test _ 2 _ (passes-test _ 1 _ (passes-test _ 0 _ a .1) .1) .1) .0
+  pub setting-good : 0 ≡ first (settingTests k J D W H) → Setting k J D W H
+  setting-good e = setting-passed k J D W H (ap (λ (x : ℕ). eqb x 0) (sym e))
 
   -- the setting of a header
   pub setting-of : (l : List ℕ) → k ≡ shotOf l .kernel → J ≡ shotOf l .levels → D ≡ shotOf l .depth → W ≡ shotOf l .width → H ≡ shotOf l .height → first (settingTests k J D W H) ≡ settingFirst l

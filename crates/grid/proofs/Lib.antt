@@ -5,3 +5,5 @@ pub mod Levels
 pub mod Outside
 pub mod Back
 pub mod Covered
+pub mod Parted
+pub mod Gathered

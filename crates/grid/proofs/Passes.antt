@@ -69,7 +69,7 @@ module _ {A : Type 0} (o : A) (W : ℕ) (l : List A) where
   unfolding picture
   cell y x h = simp (lt-ltb x W h)
 
-  cell-past : (y x : ℕ) → W ≤ x → picture o W l y x ≡ o
+  pub cell-past : (y x : ℕ) → W ≤ x → picture o W l y x ≡ o
   unfolding picture
   cell-past y x h = simp (le-ltb x W h)
 

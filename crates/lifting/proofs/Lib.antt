@@ -1,4 +1,4 @@
--- The laws of strips and of lifting steps on them.
-pub mod Strips
+-- The laws of lifting.
+pub mod Rows
 pub mod Lifts
-pub mod Transforms
+pub mod Stages

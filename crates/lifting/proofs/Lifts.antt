@@ -2,26 +2,27 @@
 use mathlib.Core.Path.{_≡_, refl, sym, ap, ap₂, subst, _∙_}
 use mathlib.Core.Bool.{Bool}
 use mathlib.Core.List.{List}
-use Prim.Native.Nat.{ℕ, _+_, _*_, _-_, _/_, _%_, _^_, _<_, _≤_}
-use native.Mathlib.Nat.{mul-le-mul-right, add-mul, div-add-mod', mod-lt, div-lt-iff-lt-mul}
+use Prim.Native.Nat.{ℕ, _+_, _*_, _-_, _/_, _%_, _<_, _≤_, min}
+use native.Mathlib.Nat.{div-add-mod'}
 use native.Mathlib.Omega.{arith}
 use lib.IntN.{ℤ}
 use lib.ListN.{length}
-use mir.Syntax.{w64}
-use mir.Val.{Fits}
-use Rattle.line.specs.Cells.{cell}
+use Rattle.kernel.specs.declared.Kernel.the-variants as kernel
+use Rattle.line.specs.Cells.{Line, cell}
+use Rattle.line.specs.Inner.{Agree}
 use Rattle.line.specs.Formulas.{slopeA, between, smoothing}
 use Rattle.line.specs.Transform.{inside, predict, update}
 use Rattle.line.proofs.Border.{inside-in, inside-here}
+use Rattle.line.proofs.Local.{predict-reach, update-local}
 use Rattle.steps.specs.Moved.{moved}
 use Rattle.runs.specs.declared.Step.{Step}
-use Rattle.runs.specs.declared.Step.the-variants.{SPlusP, TT, High, Low}
+use Rattle.runs.specs.declared.Step.the-variants.{SPlusP, TT, WideTT, High, Low}
 use Rattle.runs.specs.declared.Taps.{Taps}
 use Rattle.runs.specs.Cells.{Written}
-use Rattle.runs.specs.Steps.{amountAt, movedAt, Room, Stays}
-use Rattle.lifting.specs.Strip.{lane, Strips}
-use Rattle.lifting.specs.Steps.{amount, stepReach, movedRow, tapsOf, Straight, Fit, Lifted}
-use Rattle.lifting.proofs.Strips.{factor-pos, rows-on, rows-none, rows-run, rows-join, rows-old, strips-as}
+use Rattle.runs.specs.Steps.{amountAt, movedAt, Apart, tapBound, Room, Near, Stays}
+use Rattle.lifting.specs.Parts.{lane, Parts, Bounded}
+use Rattle.lifting.specs.Steps.{amount, lookBack, lookAhead, movedRow, tapsOf, Straight, EndToEnd, Fit, Lifted}
+use Rattle.lifting.proofs.Rows.{row-place, row-in, line-in, run-place, run-inside, run-bounded, rows-none, rows-run, rows-join, rows-old, rows-other, parts-as, bounded-as}
 
 -- ---- which runs of rows are straight
 pub straight-one : (s : Step) (M n : ℕ) → Straight s M n 1
@@ -30,103 +31,133 @@ straight-one s M n = record {
   after = λ i d h p. let e : n + i + d ≡ n + d = omega arith in rw e (omega arith);
 }
 
-pub straight-between : (s : Step) (M n r : ℕ) → stepReach s ≤ n → n + r + stepReach s ≤ M → Straight s M n r
+pub straight-between : (s : Step) (M n r : ℕ) → lookBack s ≤ n → n + r + lookAhead s ≤ M → Straight s M n r
 straight-between s M n r low high = record {
   before = λ i d h p. omega (arith, inside-here M (n + i) d (omega arith) (omega arith), inside-here M n d (omega arith) (omega arith));
   after = λ i d h p. omega (arith, inside-here M (n + i + d) 0 (omega arith) (omega arith), inside-here M (n + d) 0 (omega arith) (omega arith));
 }
 
+pub look-two : (s : Step) → (lookBack s ≤ 2) × (lookAhead s ≤ 2)
+look-two SPlusP = omega arith
+look-two TT = omega arith
+look-two WideTT = omega arith
+look-two High = omega arith
+look-two Low = omega arith
+
+-- the taps, from what their computation gives
+pub taps-same : (s : Step) (M u v t n : ℕ) {at here before2 before after after2 back ahead one-back one-ahead : ℕ} → n < M
+    → back ≡ lookBack s → ahead ≡ lookAhead s → one-back ≡ min 1 back → one-ahead ≡ min 1 ahead
+    → at ≡ u + inside M n 0 * t → here ≡ v + inside M n 0 * t → before2 ≡ v + inside M n back * t → before ≡ v + inside M n one-back * t
+    → after ≡ v + inside M (n + one-ahead) 0 * t → after2 ≡ v + inside M (n + ahead) 0 * t
+    → record { at = at; here = here; before2 = before2; before = before; after = after; after2 = after2 } ≡ tapsOf s M u v t n
+taps-same s M u v t n lt b a ob oa p q r w x y =
+    let e : inside M n 0 ≡ n = omega (arith, inside-here M n 0 (omega arith) (omega arith)) in rw (p, q, r, w, x, y, ob, oa, b, a, e)
+
 -- ---- what a run computes
-module _ {s : Step} {M n r : ℕ} (c : ℕ) (st : Straight s M n r) (x : List ℤ) (i j : ℕ) (h : i < r) where
-  cell-here : cell x ((n + i) * c + j) ≡ cell x (n * c + (i * c + j))
-  cell-here = ap (cell x) (rows-on c n i j)
+module _ {s : Step} {M n r t c : ℕ} (x : EndToEnd t c r) (st : Straight s M n r) (l : List ℤ) (i j : ℕ) (h : i < r) where
+  cell-here : (u : ℕ) → cell l (u + (n + i) * t + j) ≡ cell l (u + n * t + (i * c + j))
+  cell-here u = ap (cell l) (row-place u t c n i j (x .follow i h))
 
-  module _ (d : ℕ) (p : d ≤ stepReach s) where
-    cell-before : cell x (inside M (n + i) d * c + j) ≡ cell x (inside M n d * c + (i * c + j))
-    cell-before = ap (λ (q : ℕ). cell x (q * c + j)) (st .before i d h p) ∙ ap (cell x) (rows-on c (inside M n d) i j)
+  module _ (v d : ℕ) where
+    cell-before : d ≤ lookBack s → cell l (v + inside M (n + i) d * t + j) ≡ cell l (v + inside M n d * t + (i * c + j))
+    cell-before p = ap (λ (q : ℕ). cell l (v + q * t + j)) (st .before i d h p) ∙ ap (cell l) (row-place v t c (inside M n d) i j (x .follow i h))
 
-    cell-after : cell x (inside M (n + i + d) 0 * c + j) ≡ cell x (inside M (n + d) 0 * c + (i * c + j))
-    cell-after = ap (λ (q : ℕ). cell x (q * c + j)) (st .after i d h p) ∙ ap (cell x) (rows-on c (inside M (n + d) 0) i j)
+    cell-after : d ≤ lookAhead s → cell l (v + inside M (n + i + d) 0 * t + j) ≡ cell l (v + inside M (n + d) 0 * t + (i * c + j))
+    cell-after p = ap (λ (q : ℕ). cell l (v + q * t + j)) (st .after i d h p) ∙ ap (cell l) (row-place v t c (inside M (n + d) 0) i j (x .follow i h))
 
-amount-row : (s : Step) (M n r c : ℕ) → Straight s M n r → (x : List ℤ) (i j : ℕ) → i < r
-    → amountAt s x (tapsOf s M c n) (i * c + j) ≡ amount s M (lane c x j) (n + i)
+amount-row : (s : Step) (M n r t c u v : ℕ) → EndToEnd t c r → Straight s M n r → (l : List ℤ) (i j : ℕ) → i < r
+    → amountAt s l (tapsOf s M u v t n) (i * c + j) ≡ amount s M (lane v t l j) (n + i)
 unfolding predict update
-amount-row SPlusP M n r c st x i j h = sym (ap₂ slopeA (cell-before c st x i j h 1 (omega arith)) (cell-after c st x i j h 1 (omega arith)))
-amount-row TT M n r c st x i j h =
-    rw (cell-before c st x i j h 2 (omega arith), cell-before c st x i j h 1 (omega arith), cell-after c st x i j h 1 (omega arith), cell-after c st x i j h 2 (omega arith))
-amount-row High M n r c st x i j h = sym (ap₂ between (cell-here c st x i j h) (cell-after c st x i j h 1 (omega arith)))
-amount-row Low M n r c st x i j h = sym (ap₂ smoothing (cell-before c st x i j h 1 (omega arith)) (cell-here c st x i j h))
+amount-row SPlusP M n r t c u v x st l i j h = sym (ap₂ slopeA (cell-before x st l i j h v 1 (omega arith)) (cell-after x st l i j h v 1 (omega arith)))
+amount-row TT M n r t c u v x st l i j h =
+    rw (cell-before x st l i j h v 2 (omega arith), cell-before x st l i j h v 1 (omega arith), cell-after x st l i j h v 1 (omega arith), cell-after x st l i j h v 2 (omega arith))
+amount-row WideTT M n r t c u v x st l i j h =
+    rw (cell-before x st l i j h v 2 (omega arith), cell-before x st l i j h v 1 (omega arith), cell-after x st l i j h v 1 (omega arith), cell-after x st l i j h v 2 (omega arith))
+amount-row High M n r t c u v x st l i j h = sym (ap₂ between (cell-here x st l i j h v) (cell-after x st l i j h v 1 (omega arith)))
+amount-row Low M n r t c u v x st l i j h = sym (ap₂ smoothing (cell-before x st l i j h v 1 (omega arith)) (cell-here x st l i j h v))
 
--- ---- rows of M that a run takes are in a buffer that has room for M rows
-pub rows-fit : (M c q r : ℕ) (l : List ℤ) → q + r ≤ M → M * c ≤ length l → q * c + r * c ≤ length l
-rows-fit M c q r l p h = rw (← add-mul q r c) (let le : (q + r) * c ≤ M * c = mul-le-mul-right c p in omega arith)
+-- ---- the rows around a straight run are rows of the part
+module _ {s : Step} {M n r : ℕ} (st : Straight s M n r) (some : 0 < r) (top : n + r ≤ M) (d : ℕ) where
+  before-rows : d ≤ lookBack s → inside M n d + r ≤ M
+  before-rows p = omega (arith, st .before (r - 1) d (omega arith) p, inside-in M (n + (r - 1)) d (omega arith))
 
-pub place-fits : (M c q : ℕ) → q ≤ M → M * c < 2 ^ 32 → Fits w64 (q * c)
-place-fits M c q p h = let le : q * c ≤ M * c = mul-le-mul-right c p in omega arith
+  after-rows : d ≤ lookAhead s → inside M (n + d) 0 + r ≤ M
+  after-rows p = omega (arith, st .after (r - 1) d (omega arith) p, inside-in M (n + (r - 1) + d) 0 (omega arith))
 
-module _ {s : Step} {M n r : ℕ} (st : Straight s M n r) (some : 0 < r) (top : n + r ≤ M) (d : ℕ) (p : d ≤ stepReach s) where
-  before-rows : inside M n d + r ≤ M
-  before-rows = omega (arith, st .before (r - 1) d (omega arith) p, inside-in M (n + (r - 1)) d (omega arith))
+-- two runs of rows, one of each part, are apart
+pub runs-apart : {u v t M c size : ℕ} (n q r : ℕ) → Parts u v t M c size → EndToEnd t c r → n + r ≤ M → q + r ≤ M → Apart (u + n * t) (v + q * t) (r * c)
+runs-apart {u} {v} {t} {M} {c} n q r g x p p′ i k h h′ e =
+    g .apart (n + i / c) (i % c) (q + k / c) (k % c) (omega (arith, row-in x u n i h)) (line-in x u n i h) (omega (arith, row-in x v q k h′)) (line-in x v q k h′)
+    (sym (run-place x u n i h) ∙ e ∙ run-place x v q k h′)
 
-  after-rows : inside M (n + d) 0 + r ≤ M
-  after-rows = omega (arith, st .after (r - 1) d (omega arith) p, inside-in M (n + (r - 1) + d) 0 (omega arith))
+module _ (s : Step) (M n r c u v t : ℕ) (l : List ℤ) (p : Taps) (e : p ≡ tapsOf s M u v t n) (x : EndToEnd t c r) (st : Straight s M n r) where
+  module _ (some : 0 < r) (top : n + r ≤ M) where
+    pub run-room : Parts u v t M c (length l) → Room p (r * c) l
+    run-room g =
+        let b2 = before-rows st some top (lookBack s) (omega arith) in let b = before-rows st some top (min 1 (lookBack s)) (omega arith) in
+        let a = after-rows st some top (min 1 (lookAhead s)) (omega arith) in let a2 = after-rows st some top (lookAhead s) (omega arith) in rw e (record {
+          target = run-inside n r (g .first) x some (g .lines) top;
+          here = run-inside n r (g .second) x some (g .lines) top;
+          before2 = run-inside _ r (g .second) x some (g .lines) b2;
+          before = run-inside _ r (g .second) x some (g .lines) b;
+          after = run-inside _ r (g .second) x some (g .lines) a;
+          after2 = run-inside _ r (g .second) x some (g .lines) a2;
+          here-apart = runs-apart n n r g x top top;
+          before2-apart = runs-apart n _ r g x top b2;
+          before-apart = runs-apart n _ r g x top b;
+          after-apart = runs-apart n _ r g x top a;
+          after2-apart = runs-apart n _ r g x top a2;
+        })
 
-pub reach-two : (s : Step) → stepReach s ≤ 2
-reach-two SPlusP = omega arith
-reach-two TT = omega arith
-reach-two High = omega arith
-reach-two Low = omega arith
+    pub run-near : Bounded (tapBound s) v t M c l → Near s l p (r * c)
+    run-near g = rw e (record {
+      here = run-bounded n g x top;
+      before2 = run-bounded _ g x (before-rows st some top (lookBack s) (omega arith));
+      before = run-bounded _ g x (before-rows st some top (min 1 (lookBack s)) (omega arith));
+      after = run-bounded _ g x (after-rows st some top (min 1 (lookAhead s)) (omega arith));
+      after2 = run-bounded _ g x (after-rows st some top (lookAhead s) (omega arith));
+    })
 
-reach-one : (s : Step) → 1 ≤ stepReach s
-reach-one SPlusP = omega arith
-reach-one TT = omega arith
-reach-one High = omega arith
-reach-one Low = omega arith
+  moved-row : (add : Bool) (i j : ℕ) → i < r → movedAt s add l p (i * c + j) ≡ movedRow s add M u v t l (n + i) j
+  moved-row add i j h = rw e (ap₂ (moved add) (sym (cell-here x st l i j h u)) (amount-row s M n r t c u v x st l i j h))
 
-module _ (s : Step) (M n r c : ℕ) (t x : List ℤ) (p : Taps) (e : p ≡ tapsOf s M c n) (st : Straight s M n r) where
-  pub run-room : 0 < r → n + r ≤ M → Strips M c t x → Room p (r * c) t x
-  run-room some top strips = rw e (record {
-    target = rows-fit M c n r t top (strips .evens);
-    here = rows-fit M c n r x top (strips .odds);
-    before2 = rows-fit M c _ r x (before-rows st some top (stepReach s) (omega arith)) (strips .odds);
-    before = rows-fit M c _ r x (before-rows st some top 1 (reach-one s)) (strips .odds);
-    after = rows-fit M c _ r x (after-rows st some top 1 (reach-one s)) (strips .odds);
-    after2 = rows-fit M c _ r x (after-rows st some top (stepReach s) (omega arith)) (strips .odds);
-  })
-
-  moved-row : (add : Bool) (i j : ℕ) → i < r → movedAt s add t x p (i * c + j) ≡ movedRow s add M c t x (n + i) j
-  moved-row add i j h = rw e (ap₂ (moved add) (sym (cell-here c st t i j h)) (amount-row s M n r c st x i j h))
-
-  pub run-stays : (add : Bool) → Fit s add M c n (n + r) t x → Stays s add t x p (r * c)
+  pub run-stays : (add : Bool) → Fit s add M c n (n + r) u v t l → Stays s add l p (r * c)
   run-stays add f = record {
-    fits = λ k h.
-        let pos : 0 < c = factor-pos r c (omega arith) in
-        let row : k / c < r = div-lt-iff-lt-mul pos .1 h in
-        let col : k % c < c = mod-lt k pos in
-        rw (← div-add-mod' k c, moved-row add (k / c) (k % c) row) (f .fits (n + k / c) (k % c) (omega arith) (omega arith) col);
+    fits = λ k h. rw (← div-add-mod' k c, moved-row add (k / c) (k % c) (row-in x u n k h)) (f .fits (n + k / c) (k % c) (omega arith) (omega (arith, row-in x u n k h)) (line-in x u n k h));
   }
 
-  pub run-rows : (add : Bool) (t′ : List ℤ) → Written (movedAt s add t x p) (p .here) (r * c) t t′ → Lifted s add M c n (n + r) t x t′
-  run-rows add t′ w =
-      let v = subst (λ (q : ℕ). Written (movedAt s add t x p) q (r * c) t t′) (ap (λ (q : Taps). q .here) e) w in
-      record { rows = rows-run c n r v (λ i j h lt. moved-row add i j h) }
+  pub run-rows : (add : Bool) (l′ : List ℤ) → Written (movedAt s add l p) (p .at) (r * c) l l′ → Lifted s add M c n (n + r) u v t l l′
+  run-rows add l′ w =
+      let k = subst (λ (q : ℕ). Written (movedAt s add l p) q (r * c) l l′) (ap (λ (q : Taps). q .at) e) w in
+      record { rows = rows-run u t c n r x k (λ i j h lt. moved-row add i j h) }
+
+-- an amount is computed from the numbers of the line alone
+pub amount-local : (s : Step) (M n : ℕ) (L L′ : Line ℤ) → n < M → Agree M L L′ → amount s M L n ≡ amount s M L′ n
+amount-local SPlusP M n L L′ h a = predict-reach kernel.SPlusP M n L L′ h (λ i lt p q. a i lt)
+amount-local TT M n L L′ h a = predict-reach kernel.TT M n L L′ h (λ i lt p q. a i lt)
+amount-local WideTT M n L L′ h a = predict-reach kernel.TT M n L L′ h (λ i lt p q. a i lt)
+amount-local High M n L L′ h a = predict-reach kernel.FiveThree M n L L′ h (λ i lt p q. a i lt)
+amount-local Low M n L L′ h a = update-local M n L L′ h a
 
 -- ---- some rows moved, and then more: those are moved from what they were
-module _ {s : Step} {add : Bool} {M c a b : ℕ} {t x t′ : List ℤ} (f : Lifted s add M c a b t x t′) where
-  moved-old : (n j : ℕ) → b ≤ n → movedRow s add M c t′ x n j ≡ movedRow s add M c t x n j
-  moved-old n j h = ap (λ (z : ℤ). moved add z (amount s M (lane c x j) n)) (rows-old c a b (f .rows) n j h)
+module _ {s : Step} {add : Bool} {M c d e u v t : ℕ} {l l′ : List ℤ} (g : Parts u v t M c (length l)) (top : e ≤ M) (f : Lifted s add M c d e u v t l l′) where
+  pub parts-more : Parts u v t M c (length l′)
+  parts-more = parts-as g (f .rows .size)
 
-  pub fit-more : (d e : ℕ) → b ≤ d → Fit s add M c d e t x → Fit s add M c d e t′ x
-  fit-more d e h g = record { fits = λ n j p q k. rw (moved-old n j (omega arith)) (g .fits n j p q k) }
+  pub bounded-other : {r : ℕ} → Bounded r v t M c l → Bounded r v t M c l′
+  bounded-other b = bounded-as b (rows-other d e g top (f .rows))
 
-  pub lift-join : (d : ℕ) {t″ : List ℤ} → a ≤ b → b ≤ d → Lifted s add M c b d t′ x t″ → Lifted s add M c a d t x t″
-  lift-join d p q g = record { rows = rows-join c a b d p q (f .rows) (g .rows) (λ n j h k l. moved-old n j h) }
+  moved-old : (n j : ℕ) → e ≤ n → n < M → j < c → movedRow s add M u v t l′ n j ≡ movedRow s add M u v t l n j
+  moved-old n j ge h k = ap₂ (moved add) (rows-old u t c d e (g .wide) (f .rows) n j ge k) (amount-local s M n _ _ h (λ i lt. rows-other d e g top (f .rows) i j lt k))
 
-  pub strips-more : Strips M c t x → Strips M c t′ x
-  strips-more g = strips-as g (f .rows .size) refl
+  pub fit-more : (a b : ℕ) → e ≤ a → b ≤ M → Fit s add M c a b u v t l → Fit s add M c a b u v t l′
+  fit-more a b h le fit = record { fits = λ n j p q k. rw (moved-old n j (omega arith) (omega arith) k) (fit .fits n j p q k) }
 
-pub lift-none : (s : Step) (add : Bool) (M c a : ℕ) (t x : List ℤ) → Lifted s add M c a a t x t
-lift-none s add M c a t x = record { rows = rows-none c a t }
+  pub lift-join : (b : ℕ) {l″ : List ℤ} → d ≤ e → e ≤ b → b ≤ M → Lifted s add M c e b u v t l′ l″ → Lifted s add M c d b u v t l l″
+  lift-join b p q le h = record { rows = rows-join u t c d e b (g .wide) p q (f .rows) (h .rows) (λ n j ge lt k. moved-old n j ge (omega arith) k) }
 
-pub fit-part : {s : Step} {add : Bool} {M c a b : ℕ} {t x : List ℤ} (d e : ℕ) → Fit s add M c a b t x → a ≤ d → e ≤ b → Fit s add M c d e t x
+pub lift-none : (s : Step) (add : Bool) (M c d u v t : ℕ) (l : List ℤ) → Lifted s add M c d d u v t l l
+lift-none s add M c d u v t l = record { rows = rows-none u t c d l }
+
+pub fit-part : {s : Step} {add : Bool} {M c a b u v t : ℕ} {l : List ℤ} (d e : ℕ) → Fit s add M c a b u v t l → a ≤ d → e ≤ b → Fit s add M c d e u v t l
 fit-part d e g p q = record { fits = λ n j h k. g .fits n j (omega arith) (omega arith) }

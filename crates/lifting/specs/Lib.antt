@@ -1,4 +1,4 @@
 -- What the contracts on lifting cite.
-pub mod Strip
+pub mod Parts
 pub mod Steps
 pub mod Lines

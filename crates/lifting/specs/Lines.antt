@@ -1,48 +1,61 @@
--- The transforms of c lines of 2M numbers side by side: the evens and odds of all lines in two strips, or their lows and highs.
+-- The stages of the kernels, on the two parts of a line.
 --
---   lineNumbers c e o j               == line j, with its evens in the strip e and its odds in the strip o
---   Samples n e o                == numbers that every kernel's forward transform takes within 32 bits: within 2^29
---   Coefficients n l h           == numbers that every kernel's way back takes within 32 bits: lows within 2^30, highs within 2^24
---   Forward k M c e o e′ o′      == e′ and o′ are e and o with kernel k's lows and highs of each line in place of its evens and odds
---   Back k M c l h l′ h′         == l′ and h′ are l and h with the evens and odds of each line in place of its lows and highs
---   Predicted s M c e o e′ o′    == as Forward, with means, and differences less the amount of step s
---   Unpredicted s M c l h l′ h′  == as Back, with the pairs of means l and differences h, the amount of step s added to these
+--   pairFirst join x y    == the mean of the pair x, y; or the first of the pair of mean x and difference y
+--   pairSecond join x y   == its difference; or the second of the pair
+--   firsts join A B       == that for the parts A and B of a line
+--   seconds join A B
+--   PairFit join x y      == what makes it fit 32 bits
+--   Pairable join .. l    == that for the rows d up to e of the parts at a and b
+--   predicted s M A B     == the differences, less the amounts of step s from the means
+--   again s M A B         == the highs B, with the amounts of step s from the lows A
+--   lowsOf k M A B        == kernel k's lows of the line with these evens and odds
+--   highsOf k M A B       == its highs
 --
 -- Assumes nothing: these are definitions.
+use mathlib.Core.Bool.{Bool, true, false}
 use mathlib.Core.List.{List}
-use Prim.Native.Nat.{ℕ, _^_}
+use Prim.Native.Nat.{ℕ, _^_, _<_, _≤_}
 use lib.IntN.{ℤ, _+ℤ_, _-ℤ_}
+use mir.Syntax.{w32}
+use mir.Val.{SFits}
+use Rattle.whole.specs.Within.{Within}
 use Rattle.kernel.specs.declared.Kernel.{Kernel}
 use Rattle.line.specs.Cells.{Line, paired}
-use Rattle.line.specs.Formulas.{firstOf, secondOf}
-use Rattle.line.specs.Transform.{means, differences, low, high, undoneEvens, undoneOdds}
+use Rattle.line.specs.Formulas.{mean, difference, firstOf, secondOf}
+use Rattle.line.specs.Transform.{low, high}
 use Rattle.runs.specs.declared.Step.{Step}
-use Rattle.lifting.specs.Strip.{lane, Small, Rows}
+use Rattle.lifting.specs.Parts.{lane}
 use Rattle.lifting.specs.Steps.{amount}
 
-abbrev pub lineNumbers : ℕ → List ℤ → List ℤ → ℕ → Line ℤ
-lineNumbers c e o j = paired (lane c e j) (lane c o j)
+abbrev pub pairFirst : Bool → ℤ → ℤ → ℤ
+pairFirst false x y = mean x y
+pairFirst true x y = firstOf x y
 
-pub record Samples (n : ℕ) (e o : List ℤ) : Type 0 where
-  pub evens : Small (2 ^ 29) n e
-  pub odds : Small (2 ^ 29) n o
+abbrev pub pairSecond : Bool → ℤ → ℤ → ℤ
+pairSecond false x y = difference x y
+pairSecond true x y = secondOf x y
 
-pub record Coefficients (n : ℕ) (l h : List ℤ) : Type 0 where
-  pub lows : Small (2 ^ 30) n l
-  pub highs : Small (2 ^ 24) n h
+abbrev pub firsts : Bool → Line ℤ → Line ℤ → Line ℤ
+firsts join A B n = pairFirst join (A n) (B n)
 
-pub record Forward (k : Kernel) (M c : ℕ) (e o e′ o′ : List ℤ) : Type 0 where
-  pub lows : Rows (λ n j. low k M (lineNumbers c e o j) n) c 0 M e e′
-  pub highs : Rows (λ n j. high k M (lineNumbers c e o j) n) c 0 M o o′
+abbrev pub seconds : Bool → Line ℤ → Line ℤ → Line ℤ
+seconds join A B n = pairSecond join (A n) (B n)
 
-pub record Back (k : Kernel) (M c : ℕ) (l h l′ h′ : List ℤ) : Type 0 where
-  pub evens : Rows (λ n j. undoneEvens k M (lane c l j) (lane c h j) n) c 0 M l l′
-  pub odds : Rows (λ n j. undoneOdds k M (lane c l j) (lane c h j) n) c 0 M h h′
+abbrev pub PairFit : Bool → ℤ → ℤ → Type 0
+PairFit false x y = Within (2 ^ 29) x × Within (2 ^ 29) y
+PairFit true x y = SFits w32 (firstOf x y) × SFits w32 (secondOf x y)
 
-pub record Predicted (s : Step) (M c : ℕ) (e o e′ o′ : List ℤ) : Type 0 where
-  pub lows : Rows (λ n j. means (lineNumbers c e o j) n) c 0 M e e′
-  pub highs : Rows (λ n j. differences (lineNumbers c e o j) n -ℤ amount s M (means (lineNumbers c e o j)) n) c 0 M o o′
+pub record Pairable (join : Bool) (a b t c d e : ℕ) (l : List ℤ) : Type 0 where
+  pub each : (n j : ℕ) → d ≤ n → n < e → j < c → PairFit join (lane a t l j n) (lane b t l j n)
 
-pub record Unpredicted (s : Step) (M c : ℕ) (l h l′ h′ : List ℤ) : Type 0 where
-  pub evens : Rows (λ n j. firstOf (lane c l j n) (lane c h j n +ℤ amount s M (lane c l j) n)) c 0 M l l′
-  pub odds : Rows (λ n j. secondOf (lane c l j n) (lane c h j n +ℤ amount s M (lane c l j) n)) c 0 M h h′
+abbrev pub predicted : Step → ℕ → Line ℤ → Line ℤ → Line ℤ
+predicted s M A B n = difference (A n) (B n) -ℤ amount s M (firsts false A B) n
+
+abbrev pub again : Step → ℕ → Line ℤ → Line ℤ → Line ℤ
+again s M A B n = B n +ℤ amount s M A n
+
+abbrev pub lowsOf : Kernel → ℕ → Line ℤ → Line ℤ → Line ℤ
+lowsOf k M A B = low k M (paired A B)
+
+abbrev pub highsOf : Kernel → ℕ → Line ℤ → Line ℤ → Line ℤ
+highsOf k M A B = high k M (paired A B)

@@ -1,24 +1,49 @@
-// Lifting: the line transforms, forward and back, on strips of lines side by side.
+// Lifting: the line transforms, forward and back, in place on lines side by side whose two parts stand in one buffer.
 ghost use mathlib.Core.Path.{_≡_};
-ghost use Prim.Native.Nat.{_+_, _*_, _^_, _≤_, _<_};
-ghost use Rattle.kernel.specs.declared.Kernel.{Kernel};
+ghost use mathlib.Core.Bool.{true, false};
+ghost use Prim.Native.Nat.{_+_, _*_, _^_, _≤_, _<_, min};
+ghost use lib.ListN.{length};
+ghost use Rattle.kernel.specs.declared.Kernel.the-variants.{FiveThree};
 ghost use Rattle.line.specs.Transform as line;
-ghost use Rattle.lifting.specs.Strip.{Strips};
-ghost use Rattle.lifting.specs.Steps.{stepReach, tapsOf, Straight, Fit, Lifted};
-ghost use Rattle.lifting.specs.Lines.{Samples, Coefficients, Forward, Predicted, Back, Unpredicted};
+ghost use Rattle.runs.specs.Steps.{tapBound};
+ghost use Rattle.lifting.specs.Parts.{In, Parts, Bounded, Both};
+ghost use Rattle.lifting.specs.Steps.{lookBack, lookAhead, tapsOf, Straight, EndToEnd, Fit, Lifted};
+ghost use Rattle.lifting.specs.Lines.{firsts, seconds, Pairable, predicted, again, lowsOf, highsOf};
 use kernel::Kernel;
 use runs::Step;
 use runs::Taps;
 
-fn reach_of(s: Step) -> usize
-    ensures { λ r. ⌜ r ≡ stepReach s ⌝ }
+// How many rows back a step looks.
+fn look_back(s: Step) -> usize
+    ensures { λ r. ⌜ r ≡ lookBack s ⌝ }
 {
     match s {
-        Step::SPlusP => Kernel::SPlusP.reach(),
-        Step::TT => Kernel::TT.reach(),
-        Step::High => Kernel::FiveThree.reach(),
-        Step::Low => Kernel::FiveThree.reach(),
+        Step::SPlusP => 1,
+        Step::TT => 2,
+        Step::WideTT => 2,
+        Step::High => 0,
+        Step::Low => 1,
     }
+}
+
+// How many rows ahead it looks.
+fn look_ahead(s: Step) -> usize
+    ensures { λ r. ⌜ r ≡ lookAhead s ⌝ }
+{
+    match s {
+        Step::SPlusP => 1,
+        Step::TT => 2,
+        Step::WideTT => 2,
+        Step::High => 1,
+        Step::Low => 0,
+    }
+}
+
+// The smaller of two numbers.
+pub fn least(x: usize, y: usize) -> usize
+    ensures { λ r. ⌜ r ≡ min x y ⌝ }
+{
+    if x < y { x } else { y }
 }
 
 // The index among m that stands for u - d.
@@ -30,30 +55,52 @@ fn inside(m: usize, u: usize, d: usize) -> usize
     if i < m { i } else { m - 1 }
 }
 
-// Where row n and the rows around it begin.
-fn taps(s: Step, m: usize, lanes: usize, n: usize) -> Taps
-    requires { ⌜ (n < m) × (m < 2 ^ 32) × (m * lanes < 2 ^ 32) ⌝ }
-    ensures { λ r. ⌜ r ≡ tapsOf s m lanes n ⌝ }
+// Where row n of the part at `part` begins, in a buffer of `size` numbers. It is inside; the compiler, which is not told so, leaves each
+// row its own test that it does not overlap the rows it is computed from. One test for all rows fails where the parts are interleaved.
+fn row_start(size: usize, part: usize, n: usize, step: usize) -> usize
+    requires { ⌜ part + n * step < size ⌝ }
+    ensures { λ r. ⌜ r ≡ part + n * step ⌝ }
 {
-    let reach = reach_of(s);
-    let before2 = inside(m, n, reach);
-    let before = inside(m, n, 1);
-    let after = inside(m, n + 1, 0);
-    let after2 = inside(m, n + reach, 0);
+    least(part + n * step, size)
+}
+
+// Where the row of a part of m rows begins that stands for row u - d.
+fn row_near(size: usize, part: usize, m: usize, u: usize, d: usize, step: usize) -> usize
+    requires { ⌜ 0 < m ⌝ }
+    requires { ⌜ In part step m 1 size ⌝ }
+    ensures { λ r. ⌜ r ≡ part + line.inside m u d * step ⌝ }
+{
+    row_start(size, part, inside(m, u, d), step)
+}
+
+// Where row n of the part at `to` begins, and the rows of the part at `from` that it is moved from.
+fn taps(s: Step, size: usize, to: usize, from: usize, step: usize, m: usize, n: usize) -> Taps
+    requires { ⌜ (n < m) × (m < 2 ^ 32) ⌝ }
+    requires { ⌜ In to step m 1 size ⌝ }
+    requires { ⌜ In from step m 1 size ⌝ }
+    ensures { λ r. ⌜ r ≡ tapsOf s m to from step n ⌝ }
+{
+    let back = look_back(s);
+    let ahead = look_ahead(s);
+    let near_back = least(1, back);
+    let near_ahead = least(1, ahead);
     Taps {
-        here: n * lanes,
-        before2: before2 * lanes,
-        before: before * lanes,
-        after: after * lanes,
-        after2: after2 * lanes,
+        at: row_near(size, to, m, n, 0, step),
+        here: row_near(size, from, m, n, 0, step),
+        before2: row_near(size, from, m, n, back, step),
+        before: row_near(size, from, m, n, near_back, step),
+        after: row_near(size, from, m, n + near_ahead, 0, step),
+        after2: row_near(size, from, m, n + ahead, 0, step),
     }
 }
 
-// A lifting step on r rows from row n on.
+// A lifting step on r rows of the part at `to` from row n on, which lie end to end, from the part at `from`.
 fn lift_rows(
     s: Step,
-    t: &mut [i32],
-    x: &[i32],
+    l: &mut [i32],
+    to: usize,
+    from: usize,
+    step: usize,
     m: usize,
     lanes: usize,
     n: usize,
@@ -61,20 +108,24 @@ fn lift_rows(
     add: bool,
 )
     requires { ⌜ (0 < r) × (n + r ≤ m) ⌝ }
-    requires { ⌜ Strips m lanes (now t) (now x) ⌝ }
+    requires { ⌜ Parts to from step m lanes (length (now l)) ⌝ }
+    requires { ⌜ EndToEnd step lanes r ⌝ }
     requires { ⌜ Straight s m n r ⌝ }
-    requires { ⌜ Fit s add m lanes n (n + r) (now t) (now x) ⌝ }
-    ensures { λ _. ⌜ Lifted s add m lanes n (n + r) (now (t .entry)) (now (x .entry)) (now (t .exit)) ⌝ }
+    requires { ⌜ Bounded (tapBound s) from step m lanes (now l) ⌝ }
+    requires { ⌜ Fit s add m lanes n (n + r) to from step (now l) ⌝ }
+    ensures { λ _. ⌜ Lifted s add m lanes n (n + r) to from step (now (l .entry)) (now (l .exit)) ⌝ }
 {
-    let p = taps(s, m, lanes, n);
-    runs::run(s, t, x, p, r * lanes, add);
+    let p = taps(s, l.len(), to, from, step, m, n);
+    runs::run(s, l, p, r * lanes, add);
 }
 
-// The rows a up to b, one at a time: those whose neighbours the border rule gives.
-fn lift_edge(
+// The rows a up to b, one at a time.
+fn lift_each(
     s: Step,
-    t: &mut [i32],
-    x: &[i32],
+    l: &mut [i32],
+    to: usize,
+    from: usize,
+    step: usize,
     m: usize,
     lanes: usize,
     a: usize,
@@ -82,113 +133,178 @@ fn lift_edge(
     add: bool,
 )
     requires { ⌜ (a ≤ b) × (b ≤ m) ⌝ }
-    requires { ⌜ Strips m lanes (now t) (now x) ⌝ }
-    requires { ⌜ Fit s add m lanes a b (now t) (now x) ⌝ }
-    ensures { λ _. ⌜ Lifted s add m lanes a b (now (t .entry)) (now (x .entry)) (now (t .exit)) ⌝ }
+    requires { ⌜ Parts to from step m lanes (length (now l)) ⌝ }
+    requires { ⌜ Bounded (tapBound s) from step m lanes (now l) ⌝ }
+    requires { ⌜ Fit s add m lanes a b to from step (now l) ⌝ }
+    ensures { λ _. ⌜ Lifted s add m lanes a b to from step (now (l .entry)) (now (l .exit)) ⌝ }
 {
     for n in a..b {
-        lift_rows(s, t, x, m, lanes, n, 1, add);
+        lift_rows(s, l, to, from, step, m, lanes, n, 1, add);
     }
 }
 
-// A lifting step on all m rows: at both ends row by row, between them as one run.
-fn lift(s: Step, t: &mut [i32], x: &[i32], m: usize, lanes: usize, add: bool)
-    requires { ⌜ Strips m lanes (now t) (now x) ⌝ }
-    requires { ⌜ Fit s add m lanes 0 m (now t) (now x) ⌝ }
-    ensures { λ _. ⌜ Lifted s add m lanes 0 m (now (t .entry)) (now (x .entry)) (now (t .exit)) ⌝ }
+// A lifting step on all m rows. Where they lie end to end, those whose neighbours the border rule gives go row by row, those between as one run.
+fn lift(
+    s: Step,
+    l: &mut [i32],
+    to: usize,
+    from: usize,
+    step: usize,
+    m: usize,
+    lanes: usize,
+    add: bool,
+)
+    requires { ⌜ Parts to from step m lanes (length (now l)) ⌝ }
+    requires { ⌜ Bounded (tapBound s) from step m lanes (now l) ⌝ }
+    requires { ⌜ Fit s add m lanes 0 m to from step (now l) ⌝ }
+    ensures { λ _. ⌜ Lifted s add m lanes 0 m to from step (now (l .entry)) (now (l .exit)) ⌝ }
 {
-    let reach = reach_of(s);
-    if m <= reach + reach {
-        lift_edge(s, t, x, m, lanes, 0, m, add);
+    let a = look_back(s);
+    let b = look_ahead(s);
+    if m <= a + b {
+        lift_each(s, l, to, from, step, m, lanes, 0, m, add);
         return;
     }
-    lift_edge(s, t, x, m, lanes, 0, reach, add);
-    lift_rows(s, t, x, m, lanes, reach, m - reach - reach, add);
-    lift_edge(s, t, x, m, lanes, m - reach, m, add);
+    if step != lanes {
+        lift_each(s, l, to, from, step, m, lanes, 0, m, add);
+        return;
+    }
+    lift_each(s, l, to, from, step, m, lanes, 0, a, add);
+    lift_rows(s, l, to, from, step, m, lanes, a, m - a - b, add);
+    lift_each(s, l, to, from, step, m, lanes, m - b, m, add);
 }
 
-// Kernel 0, forward: each pair becomes its mean and its difference.
-fn forward_s(even: &mut [i32], odd: &mut [i32], m: usize, lanes: usize)
-    requires { ⌜ Strips m lanes (now even) (now odd) ⌝ }
-    requires { ⌜ Samples (m * lanes) (now even) (now odd) ⌝ }
-    ensures { λ _. ⌜ Forward Kernel.S m lanes (now (even .entry)) (now (odd .entry)) (now (even .exit)) (now (odd .exit)) ⌝ }
+// The pairs of r rows from row n on, which lie end to end, become means and differences; or means and differences become pairs.
+fn pair_rows(
+    l: &mut [i32],
+    a: usize,
+    b: usize,
+    step: usize,
+    m: usize,
+    lanes: usize,
+    n: usize,
+    r: usize,
+    join: bool,
+)
+    requires { ⌜ (0 < r) × (n + r ≤ m) ⌝ }
+    requires { ⌜ Parts a b step m lanes (length (now l)) ⌝ }
+    requires { ⌜ EndToEnd step lanes r ⌝ }
+    requires { ⌜ Pairable join a b step lanes n (n + r) (now l) ⌝ }
+    ensures { λ _. ⌜ Both (firsts join) (seconds join) a b step lanes n (n + r) (now (l .entry)) (now (l .exit)) ⌝ }
 {
-    runs::split_pairs(even, odd, m * lanes);
+    let first = row_start(l.len(), a, n, step);
+    let second = row_start(l.len(), b, n, step);
+    if join {
+        runs::join_pairs(l, first, second, r * lanes);
+    } else {
+        runs::split_pairs(l, first, second, r * lanes);
+    }
 }
 
-// Kernels 1 and 2, forward: what step s predicts is taken off the differences.
-fn forward_pairs(s: Step, even: &mut [i32], odd: &mut [i32], m: usize, lanes: usize)
-    requires { ⌜ Strips m lanes (now even) (now odd) ⌝ }
-    requires { ⌜ Samples (m * lanes) (now even) (now odd) ⌝ }
-    ensures { λ _. ⌜ Predicted s m lanes (now (even .entry)) (now (odd .entry)) (now (even .exit)) (now (odd .exit)) ⌝ }
+// The same for all m rows, one at a time.
+fn pair_each(l: &mut [i32], a: usize, b: usize, step: usize, m: usize, lanes: usize, join: bool)
+    requires { ⌜ Parts a b step m lanes (length (now l)) ⌝ }
+    requires { ⌜ Pairable join a b step lanes 0 m (now l) ⌝ }
+    ensures { λ _. ⌜ Both (firsts join) (seconds join) a b step lanes 0 m (now (l .entry)) (now (l .exit)) ⌝ }
 {
-    runs::split_pairs(even, odd, m * lanes);
-    lift(s, odd, even, m, lanes, false);
+    for n in 0..m {
+        pair_rows(l, a, b, step, m, lanes, n, 1, join);
+    }
+}
+
+// The same, as one run where the rows lie end to end.
+fn pairs(l: &mut [i32], a: usize, b: usize, step: usize, m: usize, lanes: usize, join: bool)
+    requires { ⌜ Parts a b step m lanes (length (now l)) ⌝ }
+    requires { ⌜ Pairable join a b step lanes 0 m (now l) ⌝ }
+    ensures { λ _. ⌜ Both (firsts join) (seconds join) a b step lanes 0 m (now (l .entry)) (now (l .exit)) ⌝ }
+{
+    if step == lanes {
+        pair_rows(l, a, b, step, m, lanes, 0, m, join);
+    } else {
+        pair_each(l, a, b, step, m, lanes, join);
+    }
+}
+
+// Kernels 1 and 2, forward: what step s predicts from the means is taken off the differences.
+fn forward_pairs(s: Step, l: &mut [i32], a: usize, b: usize, step: usize, m: usize, lanes: usize)
+    requires { ⌜ Parts a b step m lanes (length (now l)) ⌝ }
+    requires { ⌜ 5 * 2 ^ 22 ≤ tapBound s ⌝ }
+    requires { ⌜ Bounded (5 * 2 ^ 22) a step m lanes (now l) ⌝ }
+    requires { ⌜ Bounded (5 * 2 ^ 22) b step m lanes (now l) ⌝ }
+    ensures { λ _. ⌜ Both (firsts false) (predicted s m) a b step lanes 0 m (now (l .entry)) (now (l .exit)) ⌝ }
+{
+    pairs(l, a, b, step, m, lanes, false);
+    lift(s, l, b, a, step, m, lanes, false);
 }
 
 // Kernel 3, forward.
-fn forward_five_three(even: &mut [i32], odd: &mut [i32], m: usize, lanes: usize)
-    requires { ⌜ Strips m lanes (now even) (now odd) ⌝ }
-    requires { ⌜ Samples (m * lanes) (now even) (now odd) ⌝ }
-    ensures { λ _. ⌜ Forward Kernel.FiveThree m lanes (now (even .entry)) (now (odd .entry)) (now (even .exit)) (now (odd .exit)) ⌝ }
+fn forward_five_three(l: &mut [i32], a: usize, b: usize, step: usize, m: usize, lanes: usize)
+    requires { ⌜ Parts a b step m lanes (length (now l)) ⌝ }
+    requires { ⌜ Bounded (5 * 2 ^ 22) a step m lanes (now l) ⌝ }
+    requires { ⌜ Bounded (5 * 2 ^ 22) b step m lanes (now l) ⌝ }
+    ensures { λ _. ⌜ Both (lowsOf FiveThree m) (highsOf FiveThree m) a b step lanes 0 m (now (l .entry)) (now (l .exit)) ⌝ }
 {
-    lift(Step::High, odd, even, m, lanes, false);
-    lift(Step::Low, even, odd, m, lanes, true);
+    lift(Step::High, l, b, a, step, m, lanes, false);
+    lift(Step::Low, l, a, b, step, m, lanes, true);
 }
 
-// The transforms of `lanes` lines of 2m numbers, whose evens and odds are lent: the lows take the evens' place, the highs the odds'.
-pub fn forward(kernel: Kernel, even: &mut [i32], odd: &mut [i32], m: usize, lanes: usize)
-    requires { ⌜ Strips m lanes (now even) (now odd) ⌝ }
-    requires { ⌜ Samples (m * lanes) (now even) (now odd) ⌝ }
-    ensures { λ _. ⌜ Forward kernel m lanes (now (even .entry)) (now (odd .entry)) (now (even .exit)) (now (odd .exit)) ⌝ }
+// The transforms of `lanes` lines of 2m numbers, whose evens stand at a and whose odds at b: the lows take the evens' place, the highs the odds'.
+pub fn forward(
+    kernel: Kernel,
+    l: &mut [i32],
+    a: usize,
+    b: usize,
+    step: usize,
+    m: usize,
+    lanes: usize,
+)
+    requires { ⌜ Parts a b step m lanes (length (now l)) ⌝ }
+    requires { ⌜ Bounded (5 * 2 ^ 22) a step m lanes (now l) ⌝ }
+    requires { ⌜ Bounded (5 * 2 ^ 22) b step m lanes (now l) ⌝ }
+    ensures { λ _. ⌜ Both (lowsOf kernel m) (highsOf kernel m) a b step lanes 0 m (now (l .entry)) (now (l .exit)) ⌝ }
 {
     match kernel {
-        Kernel::S => forward_s(even, odd, m, lanes),
-        Kernel::SPlusP => forward_pairs(Step::SPlusP, even, odd, m, lanes),
-        Kernel::TT => forward_pairs(Step::TT, even, odd, m, lanes),
-        Kernel::FiveThree => forward_five_three(even, odd, m, lanes),
+        Kernel::S => pairs(l, a, b, step, m, lanes, false),
+        Kernel::SPlusP => forward_pairs(Step::SPlusP, l, a, b, step, m, lanes),
+        Kernel::TT => forward_pairs(Step::TT, l, a, b, step, m, lanes),
+        Kernel::FiveThree => forward_five_three(l, a, b, step, m, lanes),
     }
 }
 
-// Kernel 0, back.
-fn back_s(low: &mut [i32], high: &mut [i32], m: usize, lanes: usize)
-    requires { ⌜ Strips m lanes (now low) (now high) ⌝ }
-    requires { ⌜ Coefficients (m * lanes) (now low) (now high) ⌝ }
-    ensures { λ _. ⌜ Back Kernel.S m lanes (now (low .entry)) (now (high .entry)) (now (low .exit)) (now (high .exit)) ⌝ }
-{
-    runs::join_pairs(low, high, m * lanes);
-}
-
 // Kernels 1 and 2, back: what step s predicts is added to the highs.
-fn back_pairs(s: Step, low: &mut [i32], high: &mut [i32], m: usize, lanes: usize)
-    requires { ⌜ Strips m lanes (now low) (now high) ⌝ }
-    requires { ⌜ Coefficients (m * lanes) (now low) (now high) ⌝ }
-    ensures { λ _. ⌜ Unpredicted s m lanes (now (low .entry)) (now (high .entry)) (now (low .exit)) (now (high .exit)) ⌝ }
+fn back_pairs(s: Step, l: &mut [i32], a: usize, b: usize, step: usize, m: usize, lanes: usize)
+    requires { ⌜ Parts a b step m lanes (length (now l)) ⌝ }
+    requires { ⌜ 2 ^ 28 ≤ tapBound s ⌝ }
+    requires { ⌜ Bounded (2 ^ 28) a step m lanes (now l) ⌝ }
+    requires { ⌜ Bounded (2 ^ 24) b step m lanes (now l) ⌝ }
+    ensures { λ _. ⌜ Both (λ A B. firsts true A (again s m A B)) (λ A B. seconds true A (again s m A B)) a b step lanes 0 m (now (l .entry)) (now (l .exit)) ⌝ }
 {
-    lift(s, high, low, m, lanes, true);
-    runs::join_pairs(low, high, m * lanes);
+    lift(s, l, b, a, step, m, lanes, true);
+    pairs(l, a, b, step, m, lanes, true);
 }
 
 // Kernel 3, back.
-fn back_five_three(low: &mut [i32], high: &mut [i32], m: usize, lanes: usize)
-    requires { ⌜ Strips m lanes (now low) (now high) ⌝ }
-    requires { ⌜ Coefficients (m * lanes) (now low) (now high) ⌝ }
-    ensures { λ _. ⌜ Back Kernel.FiveThree m lanes (now (low .entry)) (now (high .entry)) (now (low .exit)) (now (high .exit)) ⌝ }
+fn back_five_three(l: &mut [i32], a: usize, b: usize, step: usize, m: usize, lanes: usize)
+    requires { ⌜ Parts a b step m lanes (length (now l)) ⌝ }
+    requires { ⌜ Bounded (2 ^ 28) a step m lanes (now l) ⌝ }
+    requires { ⌜ Bounded (2 ^ 24) b step m lanes (now l) ⌝ }
+    ensures { λ _. ⌜ Both (line.undoneEvens FiveThree m) (line.undoneOdds FiveThree m) a b step lanes 0 m (now (l .entry)) (now (l .exit)) ⌝ }
 {
-    lift(Step::Low, low, high, m, lanes, false);
-    lift(Step::High, high, low, m, lanes, true);
+    lift(Step::Low, l, a, b, step, m, lanes, false);
+    lift(Step::High, l, b, a, step, m, lanes, true);
 }
 
-// The way back: the lows and highs of `lanes` lines of 2m numbers are lent, and the lines' evens and odds take their place.
-pub fn back(kernel: Kernel, low: &mut [i32], high: &mut [i32], m: usize, lanes: usize)
-    requires { ⌜ Strips m lanes (now low) (now high) ⌝ }
-    requires { ⌜ Coefficients (m * lanes) (now low) (now high) ⌝ }
-    ensures { λ _. ⌜ Back kernel m lanes (now (low .entry)) (now (high .entry)) (now (low .exit)) (now (high .exit)) ⌝ }
+// The way back: the lows of `lanes` lines of 2m numbers stand at a, their highs at b, and the lines' evens and odds take their place.
+pub fn back(kernel: Kernel, l: &mut [i32], a: usize, b: usize, step: usize, m: usize, lanes: usize)
+    requires { ⌜ Parts a b step m lanes (length (now l)) ⌝ }
+    requires { ⌜ Bounded (2 ^ 28) a step m lanes (now l) ⌝ }
+    requires { ⌜ Bounded (2 ^ 24) b step m lanes (now l) ⌝ }
+    ensures { λ _. ⌜ Both (line.undoneEvens kernel m) (line.undoneOdds kernel m) a b step lanes 0 m (now (l .entry)) (now (l .exit)) ⌝ }
 {
     match kernel {
-        Kernel::S => back_s(low, high, m, lanes),
-        Kernel::SPlusP => back_pairs(Step::SPlusP, low, high, m, lanes),
-        Kernel::TT => back_pairs(Step::TT, low, high, m, lanes),
-        Kernel::FiveThree => back_five_three(low, high, m, lanes),
+        Kernel::S => pairs(l, a, b, step, m, lanes, true),
+        Kernel::SPlusP => back_pairs(Step::SPlusP, l, a, b, step, m, lanes),
+        Kernel::TT => back_pairs(Step::WideTT, l, a, b, step, m, lanes),
+        Kernel::FiveThree => back_five_three(l, a, b, step, m, lanes),
     }
 }

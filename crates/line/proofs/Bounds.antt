@@ -1,5 +1,10 @@
--- Magnitudes, for every kernel. Forward, samples within a give lows within 2a + 1 and highs within 3a + 2.
--- Back, lows within a and highs within b give samples within 3(a + b)/2 + 2. Assumes nothing.
+-- Magnitudes. Forward, samples within a give lows within 2a + 1 and highs within 3a + 2, in every kernel.
+-- Back, lows within a and highs within b give samples within a bound of each kernel's own.
+--
+--   predictBound k a == what kernel k predicts from numbers within a
+--   backBound k a b  == samples again, from lows within a and highs within b
+--
+-- Assumes nothing.
 use mathlib.Core.Path.{_≡_}
 use Prim.Native.Nat.{ℕ, _+_, _*_, _/_, _%_, _≤_}
 use native.Mathlib.Omega.{arith}
@@ -33,8 +38,15 @@ module _ (a : ℕ) (x y : ℤ) (p : Within a x) (q : Within a y) where
   smoothing-within : Within ((a + 1) / 2) (smoothing x y)
   smoothing-within = rw (ι-split x, ι-split y) (simp whole (omega arith))
 
+  slopeA-half : Within (a / 2 + 1) (slopeA x y)
+  slopeA-half = rw (ι-split x, ι-split y) (simp whole (omega arith))
+
 slopeTT-within : (a : ℕ) (u x y v : ℤ) → Within a u → Within a x → Within a y → Within a v → Within (a + 1) (slopeTT u x y v)
 slopeTT-within a u x y v o p q r = rw (ι-split u, ι-split x, ι-split y, ι-split v) (simp whole (omega arith))
+
+-- 50/64 of a, and a half
+slopeTT-close : (a : ℕ) (u x y v : ℤ) → Within a u → Within a x → Within a y → Within a v → Within (25 * a / 32 + 2) (slopeTT u x y v)
+slopeTT-close a u x y v o p q r = rw (ι-split u, ι-split x, ι-split y, ι-split v) (simp whole (omega arith))
 
 module _ (a b : ℕ) (x y : ℤ) (p : Within a x) (q : Within b y) where
   pub add-within : Within (a + b) (x +ℤ y)
@@ -62,6 +74,23 @@ predict-within TT M a L all n h =
     (all _ (inside-in M n 2 (omega arith))) (all _ (inside-in M n 1 (omega arith)))
     (all _ (inside-in M (n + 1) 0 (omega arith))) (all _ (inside-in M (n + 2) 0 (omega arith)))
 predict-within FiveThree M a L all n h = between-within a _ _ (all n h) (all _ (inside-in M (n + 1) 0 (omega arith)))
+
+-- the same, close enough for the way back
+unfoldable predictBound : Kernel → ℕ → ℕ
+predictBound S a = 0
+predictBound SPlusP a = a / 2 + 1
+predictBound TT a = 25 * a / 32 + 2
+predictBound FiveThree a = a + 1
+
+predict-close : (k : Kernel) (M a : ℕ) (L : Line ℤ) → AllWithin a M L → AllWithin (predictBound k a) M (predict k M L)
+unfolding predict predictBound
+predict-close S M a L all n h = record { hi = omega arith; lo = omega arith }
+predict-close SPlusP M a L all n h = slopeA-half a _ _ (all _ (inside-in M n 1 (omega arith))) (all _ (inside-in M (n + 1) 0 (omega arith)))
+predict-close TT M a L all n h =
+    slopeTT-close a _ _ _ _
+    (all _ (inside-in M n 2 (omega arith))) (all _ (inside-in M n 1 (omega arith)))
+    (all _ (inside-in M (n + 1) 0 (omega arith))) (all _ (inside-in M (n + 2) 0 (omega arith)))
+predict-close FiveThree M a L all n h = predict-within FiveThree M a L all n h
 
 pub update-within : (M a : ℕ) (D : Line ℤ) → AllWithin a M D → AllWithin ((a + 1) / 2) M (update M D)
 unfolding update
@@ -98,32 +127,38 @@ module _ (M a : ℕ) (X : Line ℤ) (all : AllWithin a (2 * M) X) where
       within-more (add-within a _ _ _ (all _ (omega arith)) (update-within M (2 * a + 1) (high FiveThree M X) five-three-high n h)) (omega arith)
 
 -- ---- back
+unfoldable pub backBound : Kernel → ℕ → ℕ → ℕ
+backBound S a b = a + b / 2 + 1
+backBound SPlusP a b = a + (a + 2 * b) / 4 + 2
+backBound TT a b = a + (25 * a + 32 * b) / 64 + 2
+backBound FiveThree a b = a + 3 * b / 2 + 2
+
 module _ (M a b : ℕ) (L D : Line ℤ) (lows : AllWithin a M L) (highs : AllWithin b M D) where
-  pub pair-difference-within : (k : Kernel) → AllWithin (a + b + 1) M (pairDifference k M L D)
-  pair-difference-within k n h = within-more (add-within b (a + 1) _ _ (highs n h) (predict-within k M a L lows n h)) (omega arith)
+  difference-close : (k : Kernel) → AllWithin (b + predictBound k a) M (pairDifference k M L D)
+  difference-close k n h = add-within b (predictBound k a) _ _ (highs n h) (predict-close k M a L lows n h)
 
   five-three-first : AllWithin (a + (b + 1) / 2) M (undoneEvens FiveThree M L D)
   unfolding undoneEvens
   five-three-first n h = sub-within a _ _ _ (lows n h) (update-within M b D highs n h)
 
-  pub first-bound : (k : Kernel) → AllWithin (3 * (a + b) / 2 + 2) M (undoneEvens k M L D)
-  unfolding undoneEvens
-  first-bound S n h = within-more (first-within a _ _ _ (lows n h) (pair-difference-within S n h)) (omega arith)
-  first-bound SPlusP n h = within-more (first-within a _ _ _ (lows n h) (pair-difference-within SPlusP n h)) (omega arith)
-  first-bound TT n h = within-more (first-within a _ _ _ (lows n h) (pair-difference-within TT n h)) (omega arith)
+  pub first-bound : (k : Kernel) → AllWithin (backBound k a b) M (undoneEvens k M L D)
+  unfolding undoneEvens backBound predictBound
+  first-bound S n h = within-more (first-within a _ _ _ (lows n h) (difference-close S n h)) (omega arith)
+  first-bound SPlusP n h = within-more (first-within a _ _ _ (lows n h) (difference-close SPlusP n h)) (omega arith)
+  first-bound TT n h = within-more (first-within a _ _ _ (lows n h) (difference-close TT n h)) (omega arith)
   first-bound FiveThree n h = within-more (five-three-first n h) (omega arith)
 
-  pub second-bound : (k : Kernel) → AllWithin (3 * (a + b) / 2 + 2) M (undoneOdds k M L D)
-  unfolding undoneOdds
-  second-bound S n h = within-more (second-within a _ _ _ (lows n h) (pair-difference-within S n h)) (omega arith)
-  second-bound SPlusP n h = within-more (second-within a _ _ _ (lows n h) (pair-difference-within SPlusP n h)) (omega arith)
-  second-bound TT n h = within-more (second-within a _ _ _ (lows n h) (pair-difference-within TT n h)) (omega arith)
+  pub second-bound : (k : Kernel) → AllWithin (backBound k a b) M (undoneOdds k M L D)
+  unfolding undoneOdds backBound predictBound
+  second-bound S n h = within-more (second-within a _ _ _ (lows n h) (difference-close S n h)) (omega arith)
+  second-bound SPlusP n h = within-more (second-within a _ _ _ (lows n h) (difference-close SPlusP n h)) (omega arith)
+  second-bound TT n h = within-more (second-within a _ _ _ (lows n h) (difference-close TT n h)) (omega arith)
   second-bound FiveThree n h =
       within-more (add-within b _ _ _ (highs n h) (predict-within FiveThree M _ (undoneEvens FiveThree M L D) five-three-first n h)) (omega arith)
 
 -- ---- a line of w numbers
-pub back-within : (k : Kernel) (w a b : ℕ) (Y : Line ℤ) → w % 2 ≡ 0 → AllWithin a (w / 2) Y → AllWithin b (w / 2) (behind (w / 2) Y) → AllWithin (3 * (a + b) / 2 + 2) w (back k w Y)
+pub back-within : (k : Kernel) (w a b : ℕ) (Y : Line ℤ) → w % 2 ≡ 0 → AllWithin a (w / 2) Y → AllWithin b (w / 2) (behind (w / 2) Y) → AllWithin (backBound k a b) w (back k w Y)
 unfolding back
 back-within k w a b Y even lows highs =
-    paired-each (λ x v. Within (3 * (a + b) / 2 + 2) v) w _ _ even
+    paired-each (λ x v. Within (backBound k a b) v) w _ _ even
     (first-bound (w / 2) a b Y (behind (w / 2) Y) lows highs k) (second-bound (w / 2) a b Y (behind (w / 2) Y) lows highs k)

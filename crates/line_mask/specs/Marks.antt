@@ -1,12 +1,15 @@
--- Marks in a buffer: one byte each, 1 for marked and 0 for unmarked. A strip is c lines side by side, mark n of line j at n · c + j.
+-- Marks in a buffer: one byte each, 1 for marked and 0 for unmarked. Lines lie side by side in two parts of the buffer: of c lines, mark n
+-- of line j's evens is n · c + j places behind the first part's begin a, that of its odds as far behind the second's b.
 --
 --   byte l i                == the byte at i
---   lane c l j              == line j of the strip
---   lineMarks c e o j       == line j, with its evens in the strip e and its odds in the strip o
---   MarkBytes n l           == the first n bytes are 0 or 1
---   Joined at from n t x t′ == t′ is t with x's bytes from `from` on joined to its n bytes from `at` on
---   Marks F c m l l′        == l′ is the strip l with the marks F n j in line j, for n below m
---   Masked k m c e o e′ o′  == e′ and o′ are e and o with kernel k's marks of each line's lows and highs in place of its evens' and odds'
+--   lane s c l j            == line j's marks in the part from s on
+--   lineMarks a b c l j     == line j, with its evens in the part from a on and its odds in that from b on
+--   Apart t q n             == n places from t on are none of n places from q on
+--   Parts a b c m l         == two parts of m rows of c marks in l, the second behind the first
+--   Joined at from n l l′   == l′ is l with its n bytes from `from` on joined to those from `at` on
+--   Part F s c m l          == l holds the marks F n j of line j in the part from s on, for n below m
+--   Marked F G a b c m l l′ == l′ is l with the marks F in the part from a on, and G in that from b on
+--   Masked k a b c m l l′   == l′ is l with kernel k's marks of each line's lows and highs in place of its evens' and odds'
 --
 -- Assumes nothing: these are definitions.
 use mathlib.Core.Path.{_≡_}
@@ -22,26 +25,38 @@ use Rattle.line.specs.Mask.{marked, byteOf, lowMark, highMark}
 abbrev pub byte : List ℕ → Line ℕ
 byte l i = getD l i 0
 
-abbrev pub lane : ℕ → List ℕ → ℕ → Line Bool
-lane c l j n = marked (byte l (n * c + j))
+abbrev pub lane : ℕ → ℕ → List ℕ → ℕ → Line Bool
+lane s c l j n = marked (byte l (s + (n * c + j)))
 
-abbrev pub lineMarks : ℕ → List ℕ → List ℕ → ℕ → Line Bool
-lineMarks c e o j = paired (lane c e j) (lane c o j)
+abbrev pub lineMarks : ℕ → ℕ → ℕ → List ℕ → ℕ → Line Bool
+lineMarks a b c l j = paired (lane a c l j) (lane b c l j)
 
-pub record MarkBytes (n : ℕ) (l : List ℕ) : Type 0 where
-  pub each : (i : ℕ) → i < n → byte l i ≤ 1
+abbrev pub Apart : ℕ → ℕ → ℕ → Type 0
+Apart t q n = (i k : ℕ) → i < n → k < n → t + i ≡ q + k → ⊥
 
-pub record Joined (at from n : ℕ) (t x t′ : List ℕ) : Type 0 where
-  pub size : length t′ ≡ length t
-  pub on : (k : ℕ) → k < n → byte t′ (at + k) ≡ bitOr (byte t (at + k)) (byte x (from + k))
-  pub below : (i : ℕ) → i < at → byte t′ i ≡ byte t i
-  pub above : (i : ℕ) → at + n ≤ i → byte t′ i ≡ byte t i
+pub record Parts (a b c m : ℕ) (l : List ℕ) : Type 0 where
+  pub some : 0 < m
+  pub apart : a + m * c ≤ b
+  pub room : b + m * c ≤ length l
+  pub first : (i : ℕ) → i < m * c → byte l (a + i) ≤ 1
+  pub second : (i : ℕ) → i < m * c → byte l (b + i) ≤ 1
 
-pub record Marks (F : ℕ → ℕ → Bool) (c m : ℕ) (l l′ : List ℕ) : Type 0 where
+pub record Joined (at from n : ℕ) (l l′ : List ℕ) : Type 0 where
   pub size : length l′ ≡ length l
-  pub on : (n j : ℕ) → n < m → j < c → byte l′ (n * c + j) ≡ byteOf (F n j)
-  pub above : (i : ℕ) → m * c ≤ i → byte l′ i ≡ byte l i
+  pub on : (k : ℕ) → k < n → byte l′ (at + k) ≡ bitOr (byte l (at + k)) (byte l (from + k))
+  pub below : (i : ℕ) → i < at → byte l′ i ≡ byte l i
+  pub above : (i : ℕ) → at + n ≤ i → byte l′ i ≡ byte l i
 
-pub record Masked (k : Kernel) (m c : ℕ) (e o e′ o′ : List ℕ) : Type 0 where
-  pub lows : Marks (λ n j. lowMark k m (lineMarks c e o j) n) c m e e′
-  pub highs : Marks (λ n j. highMark k m (lineMarks c e o j) n) c m o o′
+pub record Part (F : ℕ → ℕ → Bool) (s c m : ℕ) (l : List ℕ) : Type 0 where
+  pub on : (n j : ℕ) → n < m → j < c → byte l (s + (n * c + j)) ≡ byteOf (F n j)
+
+pub record Marked (F G : ℕ → ℕ → Bool) (a b c m : ℕ) (l l′ : List ℕ) : Type 0 where
+  pub size : length l′ ≡ length l
+  pub first : Part F a c m l′
+  pub second : Part G b c m l′
+  pub below : (i : ℕ) → i < a → byte l′ i ≡ byte l i
+  pub between : (i : ℕ) → a + m * c ≤ i → i < b → byte l′ i ≡ byte l i
+  pub above : (i : ℕ) → b + m * c ≤ i → byte l′ i ≡ byte l i
+
+abbrev pub Masked : Kernel → ℕ → ℕ → ℕ → ℕ → List ℕ → List ℕ → Type 0
+Masked k a b c m l = Marked (λ n j. lowMark k m (lineMarks a b c l j) n) (λ n j. highMark k m (lineMarks a b c l j) n) a b c m l

@@ -1,4 +1,6 @@
--- The laws of lines that are taken from a plane, transformed and put back.
+-- The laws of passes.
 pub mod Places
+pub mod Forms
 pub mod Taking
 pub mod Running
+pub mod Placing

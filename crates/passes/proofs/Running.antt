@@ -1,88 +1,165 @@
--- The loops of the passes: what a strip of lines asks, and that its numbers are taken within 32 bits. Assumes nothing.
-use mathlib.Core.Path.{_≡_, sym, ap, _∙_}
+-- The loops of the passes, and the columns in place: what they ask, and that their numbers are taken within 32 bits. Assumes nothing.
+use mathlib.Core.Path.{_≡_, sym, ap, subst, _∙_}
 use mathlib.Core.Bool.{Bool, true, false}
 use mathlib.Core.List.{List}
-use Prim.Native.Nat.{ℕ, _+_, _*_, _/_, _%_, _<_, _≤_}
-use native.Mathlib.Nat.{mul-le-mul-left}
+use Prim.Native.Nat.{ℕ, _+_, _*_, _/_, _%_, _^_, _<_, _≤_}
+use native.Mathlib.Nat.{mul-comm, mul-le-mul-left, div-mul-le-self, div-lt-iff-lt-mul}
 use native.Mathlib.Omega.{arith}
+use lib.Arith.{digits-lt}
 use lib.IntN.{ℤ, pos}
 use lib.ListN.{length, getD}
 use Rattle.kernel.specs.declared.Kernel.{Kernel}
 use Rattle.line.specs.Inner.{Agree}
 use Rattle.line.specs.Cells.{Line}
+use Rattle.line.specs.Transform.{undoneEvens, undoneOdds, forward, back}
+use Rattle.line.proofs.Cells.{by-lt}
 use Rattle.line.proofs.Local.{forward-local, back-local}
-use Rattle.grid.specs.Picture.{Picture, Transform, turned, picture}
-use Rattle.grid.specs.Buffer.{strided, InBuffer}
-use Rattle.grid.proofs.Passes.{Local, cell, pass-past}
+use Rattle.grid.specs.Picture.{Picture, Transform, rowPass, turned, colPass, picture}
+use Rattle.grid.specs.Buffer.{strided, InBuffer, Lines}
+use Rattle.grid.proofs.Passes.{Local, cell, pass-past, pass-none, row-of, col-more}
+use Rattle.grid.proofs.Parted.{parted-even, parted-odd, parted-local, woven-even, woven-odd, on-woven-local}
 use Rattle.grid.proofs.Running.{RowsPassed, ColsPassed, row-places, col-places}
-use Rattle.lifting.specs.Strip.{Strips}
-use Rattle.passes.specs.Passes.{lineTransform, Takes, Area}
+use Rattle.lifting.specs.Parts.{lane, Parts, Bounded, Both}
+use Rattle.lifting.specs.Lines.{lowsOf, highsOf}
+use Rattle.passes.specs.Passes.{lineTransform, order, columnTransform, Takes, Area}
+use Rattle.passes.proofs.Places.{even-place, odd-place, high-place}
+use Rattle.passes.proofs.Forms.{forward-form, turns-form}
 
 pub line-local : (undo : Bool) (k : Kernel) → Local (lineTransform undo k)
 line-local false k = λ w X Y even a. forward-local k w X Y even a
 line-local true k = λ w X Y even a. back-local k w X Y even a
 
-takes-agree : (undo : Bool) (w : ℕ) (X Y : Line ℤ) → w % 2 ≡ 0 → Agree w X Y → Takes undo w X → Takes undo w Y
+pub column-local : (undo : Bool) (k : Kernel) → Local (columnTransform undo k)
+column-local false k = on-woven-local (forward k) (line-local false k)
+column-local true k = λ w X Y even a. back-local k w _ _ even (parted-local w X Y even a)
+
+pub takes-agree : (undo : Bool) (w : ℕ) (X Y : Line ℤ) → w % 2 ≡ 0 → Agree w X Y → Takes undo w X → Takes undo w Y
 takes-agree false w X Y even a t = record { takes = λ i h. rw (← a i h) (t .takes i h) }
 takes-agree true w X Y even a t = record {
   takes = ((λ i h. rw (← a i (omega arith)) (t .takes .0 i h)), (λ i h. rw (← a (w / 2 + i) (omega arith)) (t .takes .1 i h)));
 }
 
-pub area-same : {stride w h : ℕ} {l a b : List ℤ} (l′ a′ b′ : List ℤ) → Area stride w h l a b → length l′ ≡ length l → length a′ ≡ length a → length b′ ≡ length b → Area stride w h l′ a′ b′
-area-same l′ a′ b′ z p q r = record {
-  some-w = z .some-w;
-  some-h = z .some-h;
-  even-w = z .even-w;
-  even-h = z .even-h;
-  w-most = z .w-most;
-  h-most = z .h-most;
-  wide = z .wide;
-  fits = rw p (z .fits);
-  a-room = rw q (z .a-room);
-  b-room = rw r (z .b-room);
-}
+pub area-same : {stride w h n m : ℕ} → Area stride w h n → m ≡ n → Area stride w h m
+area-same z e = rw e z
 
 -- ---- rows
-module _ {stride w h : ℕ} {l a b : List ℤ} (z : Area stride w h l a b) where
-  pub row-strips : Strips (w / 2) 1 a b
-  row-strips = record {
-    some = omega (arith, z .some-w, z .even-w);
-    few = omega (arith, z .w-most);
-    small = omega (arith, z .w-most);
-    evens = omega (arith, z .w-most, z .a-room);
-    odds = omega (arith, z .w-most, z .b-room);
-  }
-
+module _ {stride w h : ℕ} (l : List ℤ) (z : Area stride w h (length l)) where
   pub row-in : (y : ℕ) → y < h → InBuffer l (y * stride) 1 (2 * (w / 2)) 1
   row-in = row-places l stride w h (z .wide) (z .fits)
 
-  pub col-strips : (c : ℕ) → c ≤ 16 → Strips (h / 2) c a b
-  col-strips c le =
-      let m : h / 2 * c ≤ h / 2 * 16 = mul-le-mul-left (h / 2) le in record {
-        some = omega (arith, z .some-h, z .even-h);
-        few = omega (arith, z .h-most);
-        small = omega (arith, z .h-most);
-        evens = omega (arith, z .h-most, z .a-room);
-        odds = omega (arith, z .h-most, z .b-room);
-      }
+  pub row-half : {n : ℕ} → w ≤ n → (0 < w / 2) × (w / 2 < 2 ^ 32) × (2 * (w / 2) ≤ n)
+  row-half le = omega (arith, z .some-w, z .even-w, z .w-most)
 
   pub col-in : (x c : ℕ) → 0 < c → x + c ≤ w → InBuffer l x stride (2 * (h / 2)) c
   col-in = col-places l stride w h (z .wide) (z .fits)
 
-module _ {undo : Bool} {T : Transform ℤ} {stride w h y : ℕ} {l₀ a₀ b₀ l a b : List ℤ} (z : Area stride w h l₀ a₀ b₀) (p : RowsPassed (pos 0) T stride w h y l₀ a₀ b₀ l a b) where
-  pub row-takes : ((v : ℕ) → v < h → Takes undo w (picture (pos 0) stride l₀ v)) → y < h → (j : ℕ) → j < 1 → Takes undo (2 * (w / 2)) (strided (pos 0) l (y * stride + j) 1)
-  row-takes all lt j r =
+  -- as many columns as working memory holds
+  pub col-half : (c : ℕ) {n : ℕ} → 32768 ≤ n → c ≤ 32768 / h → (0 < h / 2) × (h / 2 < 2 ^ 32) × (2 * (h / 2) * c ≤ n)
+  col-half c le few =
+      let e : 2 * (h / 2) ≡ h = omega (arith, z .even-h) in
+      let p : h * c ≤ h * (32768 / h) = mul-le-mul-left h few in let q : 32768 / h * h ≤ 32768 = div-mul-le-self 32768 h in
+      (omega (arith, z .some-h, z .even-h), omega (arith, z .h-most), rw e (omega (arith, p, q, mul-comm h (32768 / h))))
+
+  pub some-lanes : 0 < 32768 / h
+  some-lanes = by-lt 0 (32768 / h) (λ lt. lt) (λ ge. let t : 32768 / h < 1 = omega arith in absurd (omega (arith, div-lt-iff-lt-mul (z .some-h) .0 t, z .h-most)))
+
+module _ {undo : Bool} {T : Transform ℤ} {stride w h y : ℕ} {l₀ q₀ l q : List ℤ} (z : Area stride w h (length l₀)) (p : RowsPassed (pos 0) T stride w h y l₀ q₀ q₀ l q q) where
+  pub row-takes : ((v : ℕ) → v < h → Takes undo w (picture (pos 0) stride l₀ v)) → y < h → Takes undo (2 * (w / 2)) (strided (pos 0) l (y * stride + 0) 1)
+  row-takes all lt =
       let e : 2 * (w / 2) ≡ w = omega (arith, z .even-w) in
       rw e (takes-agree undo w (picture (pos 0) stride l₀ y) _ (z .even-w)
       (λ i h. sym (ap (λ n. getD l n (pos 0)) (omega arith) ∙ sym (cell (pos 0) stride l y i (omega (arith, z .wide)))
       ∙ ap (λ (P : Picture ℤ). P y i) (p .passed) ∙ ap (λ (X : Line ℤ). X i) (pass-past T w y y (picture (pos 0) stride l₀) (omega arith))))
       (all y lt))
 
-module _ {undo : Bool} {T : Transform ℤ} {stride w h x : ℕ} {l₀ a₀ b₀ l a b : List ℤ} (z : Area stride w h l₀ a₀ b₀) (p : ColsPassed (pos 0) T stride w h x l₀ a₀ b₀ l a b) where
-  pub col-takes : ((v : ℕ) → v < w → Takes undo h (turned (picture (pos 0) stride l₀) v)) → (c : ℕ) → x + c ≤ w → (j : ℕ) → j < c → Takes undo (2 * (h / 2)) (strided (pos 0) l (x + j) stride)
+-- ---- columns, a strip at a time
+module _ {T : Transform ℤ} {stride w h x : ℕ} {l₀ q₀ l q : List ℤ} (z : Area stride w h (length l₀)) (p : ColsPassed (pos 0) T stride w h x l₀ q₀ q₀ l q q) where
+  pub col-takes : ((v : ℕ) → v < w → Takes false h (turned (picture (pos 0) stride l₀) v)) → (c : ℕ) → x + c ≤ w → (j : ℕ) → j < c → Takes false (2 * (h / 2)) (strided (pos 0) l (x + j) stride)
   col-takes all c le j r =
       let e : 2 * (h / 2) ≡ h = omega (arith, z .even-h) in
-      rw e (takes-agree undo h (turned (picture (pos 0) stride l₀) (x + j)) _ (z .even-h)
+      rw e (takes-agree false h (turned (picture (pos 0) stride l₀) (x + j)) _ (z .even-h)
       (λ i h. sym (ap (λ n. getD l n (pos 0)) (omega arith) ∙ sym (cell (pos 0) stride l i (x + j) (omega (arith, z .wide)))
       ∙ ap (λ (P : Picture ℤ). P (x + j) i) (p .passed) ∙ ap (λ (X : Line ℤ). X i) (pass-past T _ x (x + j) (turned (picture (pos 0) stride l₀)) (omega arith))))
       (all (x + j) (omega arith)))
+
+-- ---- columns in place
+module _ {stride w h : ℕ} (l : List ℤ) (z : Area stride w h (length l)) where
+  cell-in : (n j : ℕ) → n < h → j < w → n * stride + j < length l
+  cell-in n j p q = omega (arith, digits-lt {q = n} {m = h} {r = j} {c = stride} p (omega (arith, z .wide)), z .fits)
+
+  same-line : (n n′ j j′ : ℕ) → j < w → j′ < w → n * stride + j ≡ n′ * stride + j′ → n ≡ n′
+  same-line n n′ j j′ p q e = row-of stride n n′ j j′ (omega (arith, z .wide)) (omega (arith, z .wide)) e
+
+  -- the second half of the rows behind the first
+  pub apart-parts : Parts 0 (h / 2 * stride) stride (h / 2) w (length l)
+  apart-parts = record {
+    some = omega (arith, z .some-h, z .even-h);
+    few = omega (arith, z .h-most);
+    lines = z .some-w;
+    wide = z .wide;
+    first = record { place = λ n j p q. omega (arith, cell-in n j (omega arith) q) };
+    second = record { place = λ n j p q. omega (arith, high-place 0 stride n j (h / 2), cell-in (h / 2 + n) j (omega arith) q) };
+    apart = λ n j n′ j′ p q p′ q′ e. omega (arith, same-line n (h / 2 + n′) j j′ q q′ (omega (arith, e, high-place 0 stride n′ j′ (h / 2))));
+  }
+
+  -- every other row
+  pub turn-parts : Parts 0 stride (2 * stride) (h / 2) w (length l)
+  turn-parts = record {
+    some = omega (arith, z .some-h, z .even-h);
+    few = omega (arith, z .h-most);
+    lines = z .some-w;
+    wide = omega (arith, z .wide);
+    first = record { place = λ n j p q. omega (arith, even-place 0 stride n j, cell-in (2 * n) j (omega arith) q) };
+    second = record { place = λ n j p q. omega (arith, odd-place 0 stride n j, cell-in (2 * n + 1) j (omega arith) q) };
+    apart = λ n j n′ j′ p q p′ q′ e. omega (arith, same-line (2 * n) (2 * n′ + 1) j j′ q q′ (omega (arith, e, even-place 0 stride n j, odd-place 0 stride n′ j′)));
+  }
+
+  -- a cell of a column, by its place
+  in-column : (x n : ℕ) {i : ℕ} → x < w → i ≡ n * stride + x → getD l i (pos 0) ≡ turned (picture (pos 0) stride l) x n
+  in-column x n q e = ap (λ (i : ℕ). getD l i (pos 0)) e ∙ sym (cell (pos 0) stride l n x (omega (arith, z .wide)))
+
+  module _ (all : (x : ℕ) → x < w → Takes false h (order false h (turned (picture (pos 0) stride l) x))) where
+    pub even-rows : Bounded (5 * 2 ^ 22) 0 stride (h / 2) w l
+    even-rows = record {
+      each = λ x q n p. let e : lane 0 stride l x n ≡ order false h (turned (picture (pos 0) stride l) x) (2 * n) = in-column x n q (omega arith) ∙ sym (woven-even h n (turned (picture (pos 0) stride l) x)) in
+          rw e (all x q .takes (2 * n) (omega arith));
+    }
+
+    pub odd-rows : Bounded (5 * 2 ^ 22) (h / 2 * stride) stride (h / 2) w l
+    odd-rows = record {
+      each = λ x q n p. let e : lane (h / 2 * stride) stride l x n ≡ order false h (turned (picture (pos 0) stride l) x) (2 * n + 1) = in-column x (h / 2 + n) q (omega (arith, high-place 0 stride n x (h / 2))) ∙ sym (woven-odd h n (turned (picture (pos 0) stride l) x)) in
+          rw e (all x q .takes (2 * n + 1) (omega (arith, z .even-h)));
+    }
+
+  module _ (all : (x : ℕ) → x < w → Takes true h (order true h (turned (picture (pos 0) stride l) x))) where
+    pub low-rows : Bounded (2 ^ 28) 0 (2 * stride) (h / 2) w l
+    low-rows = record {
+      each = λ x q n p. let e : lane 0 (2 * stride) l x n ≡ order true h (turned (picture (pos 0) stride l) x) n = in-column x (2 * n) q (omega (arith, even-place 0 stride n x)) ∙ sym (parted-even h n (turned (picture (pos 0) stride l) x) p) in
+          rw e (all x q .takes .0 n p);
+    }
+
+    pub high-rows : Bounded (2 ^ 24) stride (2 * stride) (h / 2) w l
+    high-rows = record {
+      each = λ x q n p. let e : lane stride (2 * stride) l x n ≡ order true h (turned (picture (pos 0) stride l) x) (h / 2 + n) = in-column x (2 * n + 1) q (omega (arith, odd-place 0 stride n x)) ∙ sym (parted-odd h n (turned (picture (pos 0) stride l) x)) in
+          rw e (all x q .takes .1 n p);
+    }
+
+  -- all columns at once
+  columns-passed : (undo : Bool) (k : Kernel) (l′ : List ℤ) → Lines (columnTransform undo k) (pos 0) 0 stride (2 * (h / 2)) w l l′ → picture (pos 0) stride l′ ≡ colPass (columnTransform undo k) w h (picture (pos 0) stride l)
+  columns-passed undo k l′ f =
+      let T = columnTransform undo k in let Q = turned (picture (pos 0) stride l) in
+      let e : 2 * (h / 2) ≡ h = omega (arith, z .even-h) in let d : 0 + w ≡ w = omega arith in
+      let g : Lines T (pos 0) 0 stride h w l l′ = subst (λ (n : ℕ). Lines T (pos 0) 0 stride n w l l′) e f in
+      ap turned (col-more (pos 0) stride T (column-local undo k) l l′ h 0 w Q (z .even-h) (omega (arith, z .wide)) g (pass-none T h Q) ∙ ap (λ (n : ℕ). rowPass T h n Q) d)
+
+  pub forward-columns : (k : Kernel) (l′ : List ℤ) → Both (lowsOf k (h / 2)) (highsOf k (h / 2)) 0 (h / 2 * stride) stride w 0 (h / 2) l l′
+      → picture (pos 0) stride l′ ≡ colPass (columnTransform false k) w h (picture (pos 0) stride l)
+  forward-columns k l′ f =
+      let e : h / 2 * stride ≡ 0 + h / 2 * stride = omega arith in
+      columns-passed false k l′ (forward-form k (h / 2) w l l′ 0 stride (subst (λ (b : ℕ). Both (lowsOf k (h / 2)) (highsOf k (h / 2)) 0 b stride w 0 (h / 2) l l′) e f))
+
+  pub back-columns : (k : Kernel) (l′ : List ℤ) → Both (undoneEvens k (h / 2)) (undoneOdds k (h / 2)) 0 stride (2 * stride) w 0 (h / 2) l l′
+      → picture (pos 0) stride l′ ≡ colPass (columnTransform true k) w h (picture (pos 0) stride l)
+  back-columns k l′ f =
+      let e : stride ≡ 0 + stride = omega arith in
+      columns-passed true k l′ (turns-form k (h / 2) w l l′ 0 stride (subst (λ (b : ℕ). Both (undoneEvens k (h / 2)) (undoneOdds k (h / 2)) 0 b (2 * stride) w 0 (h / 2) l l′) e f))

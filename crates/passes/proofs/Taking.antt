@@ -1,155 +1,194 @@
--- Lines that are taken from a plane, transformed and put back: each is then its transform, and every number fits. Assumes nothing.
-use mathlib.Core.Path.{_≡_, sym, ap, _∙_}
-use mathlib.Core.Bool.{Bool, true, false, not}
+-- Lines that are taken to working memory, transformed there and put back: each is then its transform, and every number fits.
+--
+--   Halved l s t m c q == q has the evens of c lines of 2m numbers of l in front, m rows of c, and their odds behind
+--
+-- Assumes nothing.
+use mathlib.Core.Path.{_≡_, sym, ap, subst, _∙_}
+use mathlib.Core.Bool.{Bool, true, false}
 use mathlib.Core.List.{List}
-use Prim.Native.Nat.{ℕ, _+_, _*_, _-_, _/_, _^_, _<_}
+use Prim.Native.Nat.{ℕ, _+_, _*_, _-_, _/_, _^_, _<_, _≤_}
+use native.Mathlib.Nat.{add-mul, mul-assoc, mul-le-mul-right}
 use native.Mathlib.Omega.{arith}
+use lib.Arith.{digits-lt}
 use lib.IntN.{ℤ, pos}
 use lib.ListN.{length, getD}
-use Rattle.whole.specs.Within.{Within}
 use Rattle.kernel.specs.declared.Kernel.{Kernel}
-use Rattle.line.specs.Inner.{Agree}
-use Rattle.line.specs.Cells.{Line, joined, paired, behind}
-use Rattle.line.specs.Transform.{low, high, undoneEvens, undoneOdds, forward, back}
-use Rattle.line.proofs.Cells.{by-lt, by-parity, joined-low, joined-high, paired-even, paired-odd}
-use Rattle.line.proofs.Local.{low-local, high-local, first-local, second-local}
-use Rattle.grid.specs.Buffer.{strided, InBuffer, Taken, Put, Lines}
-use Rattle.lifting.specs.Strip.{lane, Small}
-use Rattle.lifting.specs.Lines.{lineNumbers, Samples, Coefficients, Forward, Back}
-use Rattle.lifting.proofs.Strips.{Lanes, lanes-cell}
-use Rattle.passes.specs.Passes.{lineTransform, partStep, partAt, Liftable, LiftedStrips, Takes}
-use Rattle.passes.proofs.Places.{even-place, odd-place, high-place, apart}
+use Rattle.line.specs.Inner.{Agree, AllWithin}
+use Rattle.line.specs.Cells.{Line, behind}
+use Rattle.line.specs.Transform.{undoneEvens, undoneOdds, forward, back}
+use Rattle.line.proofs.Cells.{by-lt, by-parity}
+use Rattle.line.proofs.Local.{forward-local, back-local}
+use Rattle.grid.specs.Buffer.{strided, InBuffer, Lines}
+use Rattle.grid.specs.Placed.{parted, woven, onWoven}
+use Rattle.grid.proofs.Parted.{woven-even, woven-odd, parted-even, parted-odd}
+use Rattle.lifting.specs.Parts.{lane, Parts, Bounded, Both}
+use Rattle.lifting.specs.Lines.{lowsOf, highsOf}
+use Rattle.transfer.specs.Copied.{Room, Copied}
+use Rattle.transfer.specs.Moved.{Rows, Moved, Places, Twofold}
+use Rattle.passes.specs.Passes.{Takes}
+use Rattle.passes.proofs.Places.{even-place, odd-place}
+use Rattle.passes.proofs.Forms.{forward-form, back-form}
 
-forward-double : (k : Kernel) (m : ℕ) (X : Line ℤ) → forward k (2 * m) X ≡ joined m (low k m X) (high k m X)
-unfolding forward
-forward-double k m X = let e : 2 * m / 2 ≡ m = omega arith in rw e
+-- ---- two parts of c lines, one behind the other, in q
+pub two-parts : (m c size : ℕ) → 0 < m → m < 2 ^ 32 → 0 < c → 2 * m * c ≤ size → Parts 0 (m * c) c m c size
+two-parts m c size some few lines room =
+    let e : 2 * m * c ≡ m * c + m * c = omega (arith, mul-assoc 2 m c) in record {
+      some = some;
+      few = few;
+      lines = lines;
+      wide = omega arith;
+      first = record { place = λ n j h k. omega (arith, digits-lt {q = n} {m = m} {r = j} {c = c} h k) };
+      second = record { place = λ n j h k. omega (arith, digits-lt {q = n} {m = m} {r = j} {c = c} h k) };
+      apart = λ n j n′ j′ h k h′ k′ p. omega (arith, digits-lt {q = n} {m = m} {r = j} {c = c} h k);
+    }
 
-back-double : (k : Kernel) (m : ℕ) (Y : Line ℤ) → back k (2 * m) Y ≡ paired (undoneEvens k m Y (behind m Y)) (undoneOdds k m Y (behind m Y))
-unfolding back
-back-double k m Y = let e : 2 * m / 2 ≡ m = omega arith in rw e
+-- a line alone
+pub line-parts : (m size : ℕ) → 0 < m → m < 2 ^ 32 → 2 * m ≤ size → Parts 0 m 1 m 1 size
+line-parts m size some few room = let e : m * 1 ≡ m = omega arith in rw e at (two-parts m 1 size some few (omega arith) (omega arith))
 
--- ---- what is taken: l has c lines from s on, t apart; X j is line j
-module _ (l : List ℤ) (s t m c : ℕ) (a b a′ b′ : List ℤ) where
-  line : ℕ → Line ℤ
-  line j = strided (pos 0) l (s + j) t
+pub record Halved (l : List ℤ) (s t m c : ℕ) (q : List ℤ) : Type 0 where
+  pub evens : (n j : ℕ) → n < m → j < c → lane 0 c q j n ≡ strided (pos 0) l (s + j) t (2 * n)
+  pub odds : (n j : ℕ) → n < m → j < c → lane (m * c) c q j n ≡ strided (pos 0) l (s + j) t (2 * n + 1)
 
-  place : (n j : ℕ) → getD l (s + n * t + j) (pos 0) ≡ line j n
-  unfolding line
-  place n j = ap (λ i. getD l i (pos 0)) (omega arith)
+module _ {l : List ℤ} {s t m c : ℕ} {q : List ℤ} (h : Halved l s t m c q) where
+  halved-woven : (j : ℕ) → j < c → Agree (2 * m) (woven (2 * m) (strided (pos 0) q (0 + j) c)) (strided (pos 0) l (s + j) t)
+  halved-woven j k = by-parity (λ x. x < 2 * m → woven (2 * m) (strided (pos 0) q (0 + j) c) x ≡ strided (pos 0) l (s + j) t x)
+      (λ n r. woven-even (2 * m) n (strided (pos 0) q (0 + j) c) ∙ ap (λ (i : ℕ). getD q i (pos 0)) (omega arith) ∙ h .evens n j (omega arith) k)
+      (λ n r. woven-odd (2 * m) n (strided (pos 0) q (0 + j) c)
+      ∙ ap (λ (i : ℕ). getD q i (pos 0)) (let e : 2 * m / 2 ≡ m = omega arith in rw e (omega (arith, add-mul m n c))) ∙ h .odds n j (omega arith) k)
 
-  module _ (p : Taken (pos 0) l s (2 * t) m c a a′) (q : Taken (pos 0) l (s + t) (2 * t) m c b b′) where
-    even-taken : (n j : ℕ) → n < m → j < c → lane c a′ j n ≡ line j (2 * n)
-    even-taken n j h k = p .on n j h k ∙ ap (λ i. getD l i (pos 0)) (even-place s t n j) ∙ place (2 * n) j
+  module _ (all : (j : ℕ) → j < c → Takes false (2 * m) (strided (pos 0) l (s + j) t)) where
+    pub evens-bounded : Bounded (5 * 2 ^ 22) 0 c m c q
+    evens-bounded = record { each = λ j k n r. rw (h .evens n j r k) (all j k .takes (2 * n) (omega arith)) }
 
-    odd-taken : (n j : ℕ) → n < m → j < c → lane c b′ j n ≡ line j (2 * n + 1)
-    odd-taken n j h k = q .on n j h k ∙ ap (λ i. getD l i (pos 0)) (odd-place s t n j) ∙ place (2 * n + 1) j
+    pub odds-bounded : Bounded (5 * 2 ^ 22) (m * c) c m c q
+    odds-bounded = record { each = λ j k n r. rw (h .odds n j r k) (all j k .takes (2 * n + 1) (omega arith)) }
 
-    pairs-taken : (j : ℕ) → j < c → Agree (2 * m) (lineNumbers c a′ b′ j) (line j)
-    pairs-taken j k = by-parity (λ x. x < 2 * m → lineNumbers c a′ b′ j x ≡ line j x)
-        (λ n h. paired-even (lane c a′ j) (lane c b′ j) n ∙ even-taken n j (omega arith) k)
-        (λ n h. paired-odd (lane c a′ j) (lane c b′ j) n ∙ odd-taken n j (omega arith) k)
+  -- the lows and highs put back
+  pub forward-put : (k : Kernel) {q′ l′ : List ℤ} → Both (lowsOf k m) (highsOf k m) 0 (m * c) c c 0 m q q′ → length l′ ≡ length l
+      → ((n j : ℕ) → n < 2 * m → j < c → getD l′ (s + n * t + j) (pos 0) ≡ getD q′ (0 + n * c + j) (pos 0))
+      → ((i : ℕ) → ((n j : ℕ) → n < 2 * m → j < c → i ≡ s + n * t + j → ⊥) → getD l′ i (pos 0) ≡ getD l i (pos 0))
+      → Lines (forward k) (pos 0) s t (2 * m) c l l′
+  forward-put k {q′} f same on off =
+      let e : m * c ≡ 0 + m * c = omega arith in
+      let g = forward-form k m c q q′ 0 c (subst (λ (b : ℕ). Both (lowsOf k m) (highsOf k m) 0 b c c 0 m q q′) e f) in record {
+        size = same;
+        on = λ n j r i. on n j r i ∙ g .on n j r i ∙ forward-local k (2 * m) _ (strided (pos 0) l (s + j) t) (omega arith) (halved-woven j i) n r;
+        off = off;
+      }
 
-  module _ (p : Taken (pos 0) l s t m c a a′) (q : Taken (pos 0) l (s + m * t) t m c b b′) where
-    low-taken : (j : ℕ) → j < c → Agree m (lane c a′ j) (line j)
-    low-taken j k n h = p .on n j h k ∙ place n j
+-- ---- a row
+module _ {l : List ℤ} {at : ℕ} (m : ℕ) (i : InBuffer l at 1 (2 * m) 1) where
+  pub row-out : {q : List ℤ} → 2 * m ≤ length q → Room l at 0 (2 * m) q
+  row-out h = record { source = λ k r. omega (arith, i .place k 0 r (omega arith)); target = λ k r. omega arith }
 
-    high-taken : (j : ℕ) → j < c → Agree m (lane c b′ j) (behind m (line j))
-    high-taken j k n h = q .on n j h k ∙ ap (λ i. getD l i (pos 0)) (high-place s t n j m) ∙ place (m + n) j
+  pub row-back-room : {q : List ℤ} → 2 * m ≤ length q → Room q 0 at (2 * m) l
+  row-back-room h = record { source = λ k r. omega arith; target = λ k r. omega (arith, i .place k 0 r (omega arith)) }
 
--- ---- forward: evens and odds taken, transformed, and put back as lows and highs
-module _ (k : Kernel) (l : List ℤ) (s t m c : ℕ) (a b a′ b′ a″ b″ l₁ l₂ : List ℤ) (i : InBuffer l s t (2 * m) c)
-    (p : Taken (pos 0) l s (2 * t) m c a a′) (q : Taken (pos 0) l (s + t) (2 * t) m c b b′) (f : Forward k m c a′ b′ a″ b″)
-    (u : Put (pos 0) a″ s t m c l l₁) (v : Put (pos 0) b″ (s + m * t) t m c l₁ l₂) where
-  forward-low : (n j : ℕ) → n < m → j < c → getD l₂ (s + n * t + j) (pos 0) ≡ low k m (line l s t m c a b a′ b′ j) n
-  forward-low n j h r =
-      v .off (s + n * t + j) (λ n′ j′ h′ r′ e. omega (arith, apart s t c n j (m + n′) j′ (i .apart) r r′ (e ∙ high-place s t n′ j′ m)))
-      ∙ u .on n j h r ∙ f .lows .on n j (omega arith) h r
-      ∙ low-local m (lineNumbers c a′ b′ j) _ (pairs-taken l s t m c a b a′ b′ p q j r) k n h
+  pub pair-ends : (k : ℕ) → k < m → at + 2 * k + 1 < length l
+  pair-ends k h = omega (arith, i .place (2 * k + 1) 0 (omega arith) (omega arith))
 
-  forward-high : (n j : ℕ) → n < m → j < c → getD l₂ (s + (m + n) * t + j) (pos 0) ≡ high k m (line l s t m c a b a′ b′ j) n
-  forward-high n j h r =
-      ap (λ x. getD l₂ x (pos 0)) (sym (high-place s t n j m)) ∙ v .on n j h r ∙ f .highs .on n j (omega arith) h r
-      ∙ high-local m (lineNumbers c a′ b′ j) _ (pairs-taken l s t m c a b a′ b′ p q j r) k n h
-
-  pub forward-lines : Lines (forward k) (pos 0) s t (2 * m) c l l₂
-  unfolding line
-  forward-lines = record {
-    size = v .size ∙ u .size;
-    on = λ n j h r.
-        let X = strided (pos 0) l (s + j) t in let L = low k m X in let D = high k m X in
-        rw (forward-double k m X) (by-lt n m
-        (λ lt. forward-low n j lt r ∙ sym (joined-low m L D n lt))
-        (λ ge. let e : m + (n - m) ≡ n = omega arith in
-        let z : getD l₂ (s + (m + (n - m)) * t + j) (pos 0) ≡ joined m L D (m + (n - m)) = forward-high (n - m) j (omega arith) r ∙ sym (joined-high m L D (n - m)) in
-        rw e at z));
-    off = λ x none.
-        v .off x (λ n j h r e. none (m + n) j (omega arith) r (e ∙ high-place s t n j m))
-        ∙ u .off x (λ n j h r e. none n j (omega arith) r e);
+  pub turn-places : Places (λ k. at + 2 * k) (λ k. at + 2 * k + 1) m l
+  turn-places = record {
+    first = λ k h. omega (arith, pair-ends k h);
+    second = λ k h. pair-ends k h;
+    apart = λ i k h j e. omega arith;
+    firsts = λ i k h e. omega arith;
+    seconds = λ i k h e. omega arith;
   }
 
--- ---- back: lows and highs taken, taken back, and put back as evens and odds
-module _ (k : Kernel) (l : List ℤ) (s t m c : ℕ) (a b a′ b′ a″ b″ l₁ l₂ : List ℤ) (i : InBuffer l s t (2 * m) c)
-    (p : Taken (pos 0) l s t m c a a′) (q : Taken (pos 0) l (s + m * t) t m c b b′) (f : Back k m c a′ b′ a″ b″)
-    (u : Put (pos 0) a″ s (2 * t) m c l l₁) (v : Put (pos 0) b″ (s + t) (2 * t) m c l₁ l₂) where
-  back-even : (n j : ℕ) → n < m → j < c → let X = line l s t m c a b a′ b′ j in getD l₂ (s + 2 * n * t + j) (pos 0) ≡ undoneEvens k m X (behind m X) n
-  back-even n j h r =
-      v .off (s + 2 * n * t + j) (λ n′ j′ h′ r′ e. omega (arith, apart s t c (2 * n) j (2 * n′ + 1) j′ (i .apart) r r′ (e ∙ odd-place s t n′ j′)))
-      ∙ ap (λ x. getD l₁ x (pos 0)) (sym (even-place s t n j)) ∙ u .on n j h r ∙ f .evens .on n j (omega arith) h r
-      ∙ first-local m (lane c a′ j) (lane c b′ j) _ _ (low-taken l s t m c a b a′ b′ p q j r) (high-taken l s t m c a b a′ b′ p q j r) k n h
+pub half-places : (m : ℕ) (q : List ℤ) → 2 * m ≤ length q → Places (λ k. 0 + k) (λ k. m + k) m q
+half-places m q h = record {
+  first = λ k r. omega arith;
+  second = λ k r. omega arith;
+  apart = λ i k r p e. omega arith;
+  firsts = λ i k r e. omega arith;
+  seconds = λ i k r e. omega arith;
+}
 
-  back-odd : (n j : ℕ) → n < m → j < c → let X = line l s t m c a b a′ b′ j in getD l₂ (s + (2 * n + 1) * t + j) (pos 0) ≡ undoneOdds k m X (behind m X) n
-  back-odd n j h r =
-      ap (λ x. getD l₂ x (pos 0)) (sym (odd-place s t n j)) ∙ v .on n j h r ∙ f .odds .on n j (omega arith) h r
-      ∙ second-local m (lane c a′ j) (lane c b′ j) _ _ (low-taken l s t m c a b a′ b′ p q j r) (high-taken l s t m c a b a′ b′ p q j r) k n h
+pub row-halved : (l : List ℤ) (at m : ℕ) {q q′ : List ℤ}
+    → Twofold (pos 0) (λ k. getD l (at + 2 * k) (pos 0)) (λ k. getD l (at + 2 * k + 1) (pos 0)) (λ k. 0 + k) (λ k. m + k) m q q′ → Halved l at 1 m 1 q′
+row-halved l at m {q} {q′} p = record {
+  evens = λ n j h k. ap (λ (i : ℕ). getD q′ i (pos 0)) (omega arith) ∙ p .first n h ∙ ap (λ (i : ℕ). getD l i (pos 0)) (omega arith);
+  odds = λ n j h k. ap (λ (i : ℕ). getD q′ i (pos 0)) (omega arith) ∙ p .second n h ∙ ap (λ (i : ℕ). getD l i (pos 0)) (omega arith);
+}
 
-  pub back-lines : Lines (back k) (pos 0) s t (2 * m) c l l₂
-  unfolding line
-  back-lines = record {
-    size = v .size ∙ u .size;
-    on = λ n j h r.
-        let X = strided (pos 0) l (s + j) t in let E = undoneEvens k m X (behind m X) in let O = undoneOdds k m X (behind m X) in
-        rw (back-double k m X) (by-parity (λ x. x < 2 * m → getD l₂ (s + x * t + j) (pos 0) ≡ paired E O x)
-        (λ x lt. back-even x j (omega arith) r ∙ sym (paired-even E O x))
-        (λ x lt. back-odd x j (omega arith) r ∙ sym (paired-odd E O x)) n h);
-    off = λ x none.
-        v .off x (λ n j h r e. none (2 * n + 1) j (omega arith) r (e ∙ odd-place s t n j))
-        ∙ u .off x (λ n j h r e. none (2 * n) j (omega arith) r (e ∙ even-place s t n j));
+pub row-bounded : {l : List ℤ} {at m : ℕ} {q : List ℤ} → Halved l at 1 m 1 q → Takes false (2 * m) (strided (pos 0) l (at + 0) 1)
+    → Bounded (5 * 2 ^ 22) 0 1 m 1 q × Bounded (5 * 2 ^ 22) m 1 m 1 q
+row-bounded {l} {at} {m} {q} h t =
+    let all : (j : ℕ) → j < 1 → Takes false (2 * m) (strided (pos 0) l (at + j) 1) = λ j k. let z : j ≡ 0 = omega arith in rw z t in
+    let e : m * 1 ≡ m = omega arith in (evens-bounded h all, subst (λ (b : ℕ). Bounded (5 * 2 ^ 22) b 1 m 1 q) e (odds-bounded h all))
+
+pub row-forward : (k : Kernel) (l : List ℤ) (at m : ℕ) {q q′ l′ : List ℤ} → Halved l at 1 m 1 q → Both (lowsOf k m) (highsOf k m) 0 m 1 1 0 m q q′ → Copied (pos 0) q′ 0 at (2 * m) l l′
+    → Lines (forward k) (pos 0) at 1 (2 * m) 1 l l′
+row-forward k l at m {q} {q′} {l′} h f u =
+    let e : m ≡ m * 1 = omega arith in
+    forward-put h k (subst (λ (b : ℕ). Both (lowsOf k m) (highsOf k m) 0 b 1 1 0 m q q′) e f) (u .size)
+    (λ n j r i. ap (λ (x : ℕ). getD l′ x (pos 0)) (omega arith) ∙ u .on n r ∙ ap (λ (x : ℕ). getD q′ x (pos 0)) (omega arith))
+    (λ i no. by-lt i at (λ lt. u .below i lt) (λ ge. by-lt i (at + 2 * m) (λ lt. absurd (no (i - at) 0 (omega arith) (omega arith) (omega arith))) (λ far. u .above i far)))
+
+-- the way back
+module _ (l : List ℤ) (at m : ℕ) {q q′ : List ℤ} (p : Copied (pos 0) l at 0 (2 * m) q q′) where
+  row-copied : Agree (2 * m) (strided (pos 0) q′ (0 + 0) 1) (strided (pos 0) l (at + 0) 1)
+  row-copied n h = ap (λ (i : ℕ). getD q′ i (pos 0)) (omega arith) ∙ p .on n h ∙ ap (λ (i : ℕ). getD l i (pos 0)) (omega arith)
+
+  module _ (all : Takes true (2 * m) (strided (pos 0) l (at + 0) 1)) where
+    pub lows-bounded : Bounded (2 ^ 28) 0 1 m 1 q′
+    lows-bounded = record {
+      each = λ j k n h. let t = all .takes .0 n (omega arith) in
+          let e : lane 0 1 q′ j n ≡ strided (pos 0) l (at + 0) 1 n = ap (λ (i : ℕ). getD q′ i (pos 0)) (omega arith) ∙ row-copied n (omega arith) in rw e t;
+    }
+
+    pub highs-bounded : Bounded (2 ^ 24) m 1 m 1 q′
+    highs-bounded = record {
+      each = λ j k n h. let d : 2 * m / 2 + n ≡ m + n = omega arith in let t = all .takes .1 n (omega arith) in
+          let e : lane m 1 q′ j n ≡ strided (pos 0) l (at + 0) 1 (m + n) = ap (λ (i : ℕ). getD q′ i (pos 0)) (omega arith) ∙ row-copied (m + n) (omega arith) in rw e (rw d at t);
+    }
+
+  pub row-back : (k : Kernel) {q″ l′ : List ℤ} → Both (undoneEvens k m) (undoneOdds k m) 0 m 1 1 0 m q′ q″
+      → Twofold (pos 0) (λ i. getD q″ (0 + i) (pos 0)) (λ i. getD q″ (m + i) (pos 0)) (λ i. at + 2 * i) (λ i. at + 2 * i + 1) m l l′
+      → Lines (back k) (pos 0) at 1 (2 * m) 1 l l′
+  row-back k {q″} {l′} f u =
+      let e : m ≡ 0 + m * 1 = omega arith in
+      let g = back-form k m 1 q′ q″ 0 1 (subst (λ (b : ℕ). Both (undoneEvens k m) (undoneOdds k m) 0 b 1 1 0 m q′ q″) e f) in
+      let same : Agree (2 * m) (back k (2 * m) (strided (pos 0) q′ (0 + 0) 1)) (back k (2 * m) (strided (pos 0) l (at + 0) 1)) = back-local k (2 * m) _ _ (omega arith) row-copied in
+      record {
+        size = u .size;
+        on = λ n j h r. let z : j ≡ 0 = omega arith in rw z (by-parity (λ x. x < 2 * m → getD l′ (at + x * 1 + 0) (pos 0) ≡ back k (2 * m) (strided (pos 0) l (at + 0) 1) x)
+            (λ i b. ap (λ (x : ℕ). getD l′ x (pos 0)) (omega arith) ∙ u .first i (omega arith) ∙ ap (λ (x : ℕ). getD q″ x (pos 0)) (omega arith)
+            ∙ g .on i 0 (omega arith) (omega arith) ∙ parted-even (2 * m) i _ (omega arith) ∙ same (2 * i) b)
+            (λ i b. let d : 2 * m / 2 + i ≡ m + i = omega arith in ap (λ (x : ℕ). getD l′ x (pos 0)) (omega arith) ∙ u .second i (omega arith) ∙ ap (λ (x : ℕ). getD q″ x (pos 0)) (omega arith)
+            ∙ g .on (m + i) 0 (omega arith) (omega arith) ∙ ap (parted (2 * m) (back k (2 * m) (strided (pos 0) q′ (0 + 0) 1))) (sym d) ∙ parted-odd (2 * m) i _ ∙ same (2 * i + 1) b) n h);
+        off = λ i no. u .off i (λ n h e. no (2 * n) 0 (omega arith) (omega arith) (omega arith)) (λ n h e. no (2 * n + 1) 0 (omega arith) (omega arith) (omega arith));
+      }
+
+-- ---- a strip of columns
+module _ {l : List ℤ} {s t c : ℕ} (m : ℕ) (i : InBuffer l s t (2 * m) c) where
+  pub strip-evens : {q : List ℤ} → 2 * m * c ≤ length q → Rows l (λ n. s + n * (2 * t)) (λ n. 0 + n * c) m c q
+  strip-evens h = let e : 2 * m * c ≡ m * c + m * c = omega (arith, mul-assoc 2 m c) in record {
+    some = i .some;
+    room = λ n p. record { source = λ j r. rw (even-place s t n j) (i .place (2 * n) j (omega arith) r); target = λ j r. omega (arith, digits-lt {q = n} {m = m} {r = j} {c = c} p r) };
+    apart = λ r n j p k. omega (arith, digits-lt {q = r} {m = n} {r = j} {c = c} p k);
   }
 
--- ---- what the lifting asks of the numbers that are taken
-small-of : (r m c : ℕ) (x : List ℤ) → ((n j : ℕ) → n < m → j < c → Within r (lane c x j n)) → Small r (m * c) x
-small-of r m c x all = let lanes : Lanes r m c x = record { each = λ j k n h. all n j h k } in record { each = lanes-cell lanes }
-
-module _ (l : List ℤ) (s t m c : ℕ) (a b a′ b′ : List ℤ) where
-  pub samples-taken : Taken (pos 0) l s (2 * t) m c a a′ → Taken (pos 0) l (s + t) (2 * t) m c b b′
-      → ((j : ℕ) → j < c → Takes false (2 * m) (strided (pos 0) l (s + j) t)) → Samples (m * c) a′ b′
-  unfolding line
-  samples-taken p q all = record {
-    evens = small-of (2 ^ 29) m c a′ (λ n j h k. rw (even-taken l s t m c a b a′ b′ p q n j h k) (all j k .takes (2 * n) (omega arith)));
-    odds = small-of (2 ^ 29) m c b′ (λ n j h k. rw (odd-taken l s t m c a b a′ b′ p q n j h k) (all j k .takes (2 * n + 1) (omega arith)));
+  pub strip-odds : {q : List ℤ} → 2 * m * c ≤ length q → Rows l (λ n. s + t + n * (2 * t)) (λ n. m * c + n * c) m c q
+  strip-odds h = let e : 2 * m * c ≡ m * c + m * c = omega (arith, mul-assoc 2 m c) in record {
+    some = i .some;
+    room = λ n p. record { source = λ j r. rw (odd-place s t n j) (i .place (2 * n + 1) j (omega arith) r); target = λ j r. omega (arith, digits-lt {q = n} {m = m} {r = j} {c = c} p r) };
+    apart = λ r n j p k. omega (arith, digits-lt {q = r} {m = n} {r = j} {c = c} p k);
   }
 
-  pub coefficients-taken : Taken (pos 0) l s t m c a a′ → Taken (pos 0) l (s + m * t) t m c b b′
-      → ((j : ℕ) → j < c → Takes true (2 * m) (strided (pos 0) l (s + j) t)) → Coefficients (m * c) a′ b′
-  unfolding line
-  coefficients-taken p q all = let e : 2 * m / 2 ≡ m = omega arith in record {
-    lows = small-of (2 ^ 30) m c a′ (λ n j h k. rw (low-taken l s t m c a b a′ b′ p q j k n h) ((rw e at (all j k .takes)) .0 n h));
-    highs = small-of (2 ^ 24) m c b′ (λ n j h k. rw (high-taken l s t m c a b a′ b′ p q j k n h) ((rw e at (all j k .takes)) .1 n h));
+  pub strip-put : {q : List ℤ} → 2 * m * c ≤ length q → Rows q (λ n. 0 + n * c) (λ n. s + n * t) (2 * m) c l
+  strip-put h = record {
+    some = i .some;
+    room = λ n p. record { source = λ j r. omega (arith, digits-lt {q = n} {m = 2 * m} {r = j} {c = c} p r); target = λ j r. i .place n j p r };
+    apart = λ r n j p k. omega (arith, digits-lt {q = r} {m = n} {r = j} {c = t} p (omega (arith, i .apart)));
   }
 
--- ---- either way
-module _ (l : List ℤ) (s t m c : ℕ) (a b a′ b′ : List ℤ) where
-  pub parts-taken : (undo : Bool) → Taken (pos 0) l s (partStep (not undo) t) m c a a′ → Taken (pos 0) l (s + partAt (not undo) t m) (partStep (not undo) t) m c b b′
-      → ((j : ℕ) → j < c → Takes undo (2 * m) (strided (pos 0) l (s + j) t)) → Liftable undo (m * c) a′ b′
-  parts-taken false = samples-taken l s t m c a b a′ b′
-  parts-taken true = coefficients-taken l s t m c a b a′ b′
-
-pub lifted-sizes : (undo : Bool) (k : Kernel) (m c : ℕ) (a b a′ b′ : List ℤ) → LiftedStrips undo k m c a b a′ b′ → (length a′ ≡ length a) × (length b′ ≡ length b)
-lifted-sizes false k m c a b a′ b′ f = (f .lows .size, f .highs .size)
-lifted-sizes true k m c a b a′ b′ f = (f .evens .size, f .odds .size)
-
-pub lines-done : (undo : Bool) (k : Kernel) (l : List ℤ) (s t m c : ℕ) (a b a′ b′ a″ b″ l₁ l₂ : List ℤ) → InBuffer l s t (2 * m) c
-    → Taken (pos 0) l s (partStep (not undo) t) m c a a′ → Taken (pos 0) l (s + partAt (not undo) t m) (partStep (not undo) t) m c b b′ → LiftedStrips undo k m c a′ b′ a″ b″
-    → Put (pos 0) a″ s (partStep undo t) m c l l₁ → Put (pos 0) b″ (s + partAt undo t m) (partStep undo t) m c l₁ l₂ → Lines (lineTransform undo k) (pos 0) s t (2 * m) c l l₂
-lines-done false = forward-lines
-lines-done true = back-lines
+pub strip-halved : (l : List ℤ) (s t m c : ℕ) {q q₁ q₂ : List ℤ} → Moved (pos 0) l (λ n. s + n * (2 * t)) (λ n. 0 + n * c) m c q q₁ → Moved (pos 0) l (λ n. s + t + n * (2 * t)) (λ n. m * c + n * c) m c q₁ q₂
+    → Halved l s t m c q₂
+strip-halved l s t m c p r = record {
+  evens = λ n j h k. r .off (0 + n * c + j) (λ n′ j′ h′ k′ e. omega (arith, digits-lt {q = n} {m = m} {r = j} {c = c} h k)) ∙ p .on n j h k
+      ∙ ap (λ (i : ℕ). getD l i (pos 0)) (even-place s t n j ∙ omega arith);
+  odds = λ n j h k. r .on n j h k ∙ ap (λ (i : ℕ). getD l i (pos 0)) (odd-place s t n j ∙ omega arith);
+}

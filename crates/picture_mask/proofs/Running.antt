@@ -1,22 +1,62 @@
--- The loops of the passes and their levels: what a strip of lines asks, and the area while a pass runs and after it. Assumes nothing.
-use mathlib.Core.Path.{_≡_, ap, _∙_}
+-- The loops of the passes and their levels: what lines ask, and the area while a pass runs and after it.
+--
+--   RowsMasked T W w h y l₀ l == of h rows, the rows up to y are transformed in their first w marks, all else is as it was
+--   ColsMasked T W w h x l₀ l == of w columns, those up to x are
+--
+-- Assumes nothing.
+use mathlib.Core.Path.{_≡_, refl, ap, _∙_}
 use mathlib.Core.Bool.{Bool, true, false}
 use mathlib.Core.List.{List}
 use Prim.Native.Nat.{ℕ, _+_, _*_, _/_, _%_, _<_, _≤_}
-use native.Mathlib.Nat.{mul-le-mul-left, mul-le-mul-right, mul-one}
+use native.Mathlib.Nat.{mul-comm, mul-le-mul-left, mul-le-mul-right, mul-one, div-mul-le-self, le-div-iff-mul-le}
 use native.Mathlib.Omega.{arith}
+use lib.Arith.{digits-lt}
 use lib.Dec.{ltb}
 use lib.ListN.{length}
 use Rattle.kernel.specs.declared.Kernel.{Kernel}
-use Rattle.line.specs.Cells.{choose}
+use Rattle.line.specs.Cells.{Line, choose}
 use Rattle.line.specs.Mask.{maskLine, marked, byteOf}
-use Rattle.grid.specs.Picture.{Picture, onLine, rowPass, turned, colPass, picture}
-use Rattle.grid.specs.Buffer.{InBuffer}
-use Rattle.grid.proofs.Passes.{cell-of}
-use Rattle.grid.proofs.Running.{RowsPassed, ColsPassed, row-places, col-places}
-use Rattle.lifting.specs.Strip.{Strips}
-use Rattle.line_mask.specs.Marks.{byte}
-use Rattle.picture_mask.specs.Areas.{Binary, Area, maskLineBytes}
+use Rattle.line.proofs.Cells.{by-lt}
+use Rattle.grid.specs.Picture.{Picture, Transform, onLine, rowPass, turned, colPass, picture}
+use Rattle.grid.specs.Buffer.{InBuffer, Lines}
+use Rattle.grid.specs.Placed.{woven, onWoven, placed}
+use Rattle.grid.proofs.Passes.{Local, cell-of, pass-none, row-more, col-more}
+use Rattle.grid.proofs.Parted.{source, placed-cell, placed-below, placed-right}
+use Rattle.line_mask.specs.Marks.{byte, Parts}
+use Rattle.picture_mask.specs.Areas.{Binary, Strip, Area, Whole, maskLineBytes}
+use Rattle.picture_mask.proofs.Taking.{parts-of}
+
+pub record RowsMasked (T : Transform ℕ) (W w h y : ℕ) (l₀ l : List ℕ) : Type 0 where
+  pub count : y ≤ h
+  pub same : length l ≡ length l₀
+  pub passed : picture 0 W l ≡ rowPass T w y (picture 0 W l₀)
+
+pub record ColsMasked (T : Transform ℕ) (W w h x : ℕ) (l₀ l : List ℕ) : Type 0 where
+  pub count : x ≤ w
+  pub same : length l ≡ length l₀
+  pub passed : turned (picture 0 W l) ≡ rowPass T h x (turned (picture 0 W l₀))
+
+module _ {T : Transform ℕ} {W w h : ℕ} {l : List ℕ} where
+  pub rows-none : RowsMasked T W w h 0 l l
+  rows-none = record { count = omega arith; same = refl; passed = pass-none T w (picture 0 W l) }
+
+  pub cols-none : ColsMasked T W w h 0 l l
+  cols-none = record { count = omega arith; same = refl; passed = pass-none T h (turned (picture 0 W l)) }
+
+module _ {T : Transform ℕ} {W w h : ℕ} {l₀ l l′ : List ℕ} (local : Local T) (wide : w ≤ W) where
+  pub rows-more : {y : ℕ} → w % 2 ≡ 0 → RowsMasked T W w h y l₀ l → y < h → Lines T 0 (y * W) 1 w 1 l l′ → RowsMasked T W w h (y + 1) l₀ l′
+  rows-more {y} even p lt f = record {
+    count = omega arith;
+    same = f .size ∙ p .same;
+    passed = row-more 0 W T local l l′ w y (picture 0 W l₀) even wide f (p .passed);
+  }
+
+  pub cols-more : {x : ℕ} (c : ℕ) → h % 2 ≡ 0 → ColsMasked T W w h x l₀ l → x + c ≤ w → Lines T 0 x W h c l l′ → ColsMasked T W w h (x + c) l₀ l′
+  cols-more {x} c even p le f = record {
+    count = le;
+    same = f .size ∙ p .same;
+    passed = col-more 0 W T local l l′ h x c (turned (picture 0 W l₀)) even (omega arith) f (p .passed);
+  }
 
 -- ---- bytes that are marks, before a pass and after
 byte-most : (m : Bool) → byteOf m ≤ 1
@@ -27,15 +67,31 @@ choose-most : (b : Bool) (m n : ℕ) → m ≤ 1 → n ≤ 1 → choose b m n �
 choose-most true m n p q = p
 choose-most false m n p q = q
 
-pass-most : (k : Kernel) (w h : ℕ) (P : Picture ℕ) → ((y x : ℕ) → P y x ≤ 1) → (y x : ℕ) → rowPass (maskLineBytes k) w h P y x ≤ 1
+-- a transform that makes marks
+abbrev pub MarksMade : Transform ℕ → Type 0
+MarksMade T = (w : ℕ) (X : Line ℕ) (x : ℕ) → T w X x ≤ 1
+
+pub mask-made : (k : Kernel) → MarksMade (maskLineBytes k)
+mask-made k w X x = byte-most (maskLine k w (λ i. marked (X i)) x)
+
+pub placed-made : (k : Kernel) → MarksMade (onWoven (maskLineBytes k))
+placed-made k w X x = mask-made k w (woven w X) x
+
+pass-most : {T : Transform ℕ} → MarksMade T → (w h : ℕ) (P : Picture ℕ) → ((y x : ℕ) → P y x ≤ 1) → (y x : ℕ) → rowPass T w h P y x ≤ 1
 unfolding rowPass onLine
-pass-most k w h P all y x = choose-most (ltb y h) _ _ (choose-most (ltb x w) _ _ (byte-most (maskLine k w (λ i. marked (P y i)) x)) (all y x)) (all y x)
+pass-most made w h P all y x = choose-most (ltb y h) _ _ (choose-most (ltb x w) _ _ (made w (P y) x) (all y x)) (all y x)
 
 pub picture-most : (W : ℕ) (l : List ℕ) → Binary l → (y x : ℕ) → picture 0 W l y x ≤ 1
 unfolding picture
 picture-most W l b y x = choose-most (ltb x W) _ _ (b .each (y * W + x)) (omega arith)
 
-binary-of : (W : ℕ) (l : List ℕ) (P : Picture ℕ) → 0 < W → picture 0 W l ≡ P → ((y x : ℕ) → P y x ≤ 1) → Binary l
+-- a placed picture holds what the picture holds
+pub placed-most : (W H : ℕ) (P : Picture ℕ) → W % 2 ≡ 0 → H % 2 ≡ 0 → ((y x : ℕ) → P y x ≤ 1) → (y x : ℕ) → placed W H P y x ≤ 1
+placed-most W H P p q all y x = by-lt y H
+    (λ lt. by-lt x W (λ k. rw (placed-cell W H P p q y x lt k) (all (source H y) (source W x))) (λ ge. rw (placed-right W H P p q y x ge) (all y x)))
+    (λ ge. rw (placed-below W H P p q y x ge) (all y x))
+
+pub binary-of : (W : ℕ) (l : List ℕ) (P : Picture ℕ) → 0 < W → picture 0 W l ≡ P → ((y x : ℕ) → P y x ≤ 1) → Binary l
 binary-of W l P some e all = record {
   each = λ i.
       let h : (i + 1) * 1 ≤ (i + 1) * W = mul-le-mul-left (i + 1) some in
@@ -43,9 +99,16 @@ binary-of W l P some e all = record {
       rw q (all (i / W) (i % W));
 }
 
+module _ {T : Transform ℕ} (made : MarksMade T) {W : ℕ} (some : 0 < W) {l l′ : List ℕ} (b : Binary l) (w h : ℕ) where
+  pub rows-binary : picture 0 W l′ ≡ rowPass T w h (picture 0 W l) → Binary l′
+  rows-binary e = binary-of W l′ _ some e (pass-most made w h _ (picture-most W l b))
+
+  pub cols-binary : picture 0 W l′ ≡ colPass T w h (picture 0 W l) → Binary l′
+  cols-binary e = binary-of W l′ _ some e (λ y x. pass-most made h w (turned (picture 0 W l)) (λ v u. picture-most W l b u v) x y)
+
 -- ---- an area after a pass over h rows or w columns of it
-module _ {W w h : ℕ} {l a b : List ℕ} (l′ a′ b′ : List ℕ) (z : Area W w h l a b) (p : length l′ ≡ length l) (q : length a′ ≡ length a) (r : length b′ ≡ length b) where
-  area-same : Binary l′ → Area W w h l′ a′ b′
+module _ {W w h : ℕ} {l x : List ℕ} (l′ x′ : List ℕ) (z : Area W w h l x) (p : length l′ ≡ length l) (q : length x′ ≡ length x) where
+  area-same : Binary l′ → Area W w h l′ x′
   area-same marks = record {
     some-w = z .some-w;
     some-h = z .some-h;
@@ -53,21 +116,18 @@ module _ {W w h : ℕ} {l a b : List ℕ} (l′ a′ b′ : List ℕ) (z : Area 
     h-most = z .h-most;
     wide = z .wide;
     fits = rw p (z .fits);
-    a-room = rw q (z .a-room);
-    b-room = rw r (z .b-room);
+    room = rw q (z .room);
     marks = marks;
   }
 
-  pub rows-area : (k : Kernel) (n : ℕ) → picture 0 W l′ ≡ rowPass (maskLineBytes k) w n (picture 0 W l) → Area W w h l′ a′ b′
-  rows-area k n e = area-same (binary-of W l′ _ (omega (arith, z .some-w, z .wide)) e (pass-most k w n _ (picture-most W l (z .marks))))
+  pub rows-area : (k : Kernel) (n : ℕ) → picture 0 W l′ ≡ rowPass (maskLineBytes k) w n (picture 0 W l) → Area W w h l′ x′
+  rows-area k n e = area-same (rows-binary (mask-made k) (omega (arith, z .some-w, z .wide)) (z .marks) w n e)
 
-  pub cols-area : (k : Kernel) (n : ℕ) → picture 0 W l′ ≡ colPass (maskLineBytes k) n h (picture 0 W l) → Area W w h l′ a′ b′
-  cols-area k n e =
-      area-same (binary-of W l′ _ (omega (arith, z .some-w, z .wide)) e
-      (λ y x. pass-most k h n (turned (picture 0 W l)) (λ v u. picture-most W l (z .marks) u v) x y))
+  pub cols-area : (k : Kernel) (n : ℕ) → picture 0 W l′ ≡ colPass (maskLineBytes k) n h (picture 0 W l) → Area W w h l′ x′
+  cols-area k n e = area-same (cols-binary (mask-made k) (omega (arith, z .some-w, z .wide)) (z .marks) n h e)
 
 -- its low quarter
-pub area-low : {W w h : ℕ} {l a b : List ℕ} → Area W w h l a b → w % 2 ≡ 0 → h % 2 ≡ 0 → Area W (w / 2) (h / 2) l a b
+pub area-low : {W w h : ℕ} {l x : List ℕ} → Area W w h l x → w % 2 ≡ 0 → h % 2 ≡ 0 → Area W (w / 2) (h / 2) l x
 area-low {W} {w} {h} z p q = record {
   some-w = omega (arith, z .some-w);
   some-h = omega (arith, z .some-h);
@@ -75,43 +135,69 @@ area-low {W} {w} {h} z p q = record {
   h-most = omega (arith, z .h-most);
   wide = omega (arith, z .wide);
   fits = let le : h / 2 * W ≤ h * W = mul-le-mul-right W (omega arith) in omega (arith, z .fits);
-  a-room = z .a-room;
-  b-room = z .b-room;
+  room = z .room;
   marks = z .marks;
 }
 
 -- ---- what a row and a strip of columns ask
-module _ {W w h : ℕ} {l a b : List ℕ} (z : Area W w h l a b) where
-  pub row-strips : w % 2 ≡ 0 → Strips (w / 2) 1 a b
-  row-strips even = record {
-    some = omega (arith, z .some-w);
-    few = omega (arith, z .w-most);
-    small = omega (arith, z .w-most);
-    evens = omega (arith, z .w-most, z .a-room);
-    odds = omega (arith, z .w-most, z .b-room);
+module _ {W w h : ℕ} {l x : List ℕ} (z : Area W w h l x) where
+  pub row-strip : w % 2 ≡ 0 → Strip w 1 x
+  row-strip even = record { some = z .some-w; even = even; few = omega (arith, z .w-most); room = omega (arith, z .w-most, z .room) }
+
+  pub row-in : (y : ℕ) → y < h → InBuffer l (y * W) 1 w 1
+  row-in y p = record {
+    some = omega arith;
+    apart = omega arith;
+    place = λ n j i r. omega (arith, z .wide, z .fits, digits-lt {q = y} {m = h} {r = n} {c = W} p (omega (arith, z .wide)));
   }
 
-  pub row-in : (y : ℕ) → y < h → InBuffer l (y * W) 1 (2 * (w / 2)) 1
-  row-in = row-places l W w h (z .wide) (z .fits)
+  pub col-strip : h % 2 ≡ 0 → (c : ℕ) → c ≤ 32768 / h → Strip h c x
+  col-strip even c le = record {
+    some = z .some-h;
+    even = even;
+    few = omega (arith, z .h-most);
+    room = omega (arith, z .room, mul-le-mul-left h le, mul-comm h (32768 / h), div-mul-le-self 32768 h);
+  }
 
-  pub col-strips : h % 2 ≡ 0 → (c : ℕ) → c ≤ 16 → Strips (h / 2) c a b
-  col-strips even c le =
-      let m : h / 2 * c ≤ h / 2 * 16 = mul-le-mul-left (h / 2) le in record {
-        some = omega (arith, z .some-h);
-        few = omega (arith, z .h-most);
-        small = omega (arith, z .h-most);
-        evens = omega (arith, z .h-most, z .a-room);
-        odds = omega (arith, z .h-most, z .b-room);
-      }
+  pub most-lanes : 0 < 32768 / h
+  most-lanes = le-div-iff-mul-le {k = h} {x = 1} {y = 32768} (z .some-h) .1 (omega (arith, z .h-most))
 
-  pub col-in : (x c : ℕ) → 0 < c → x + c ≤ w → InBuffer l x W (2 * (h / 2)) c
-  col-in = col-places l W w h (z .wide) (z .fits)
+  pub col-in : (v c : ℕ) → 0 < c → v + c ≤ w → InBuffer l v W h c
+  col-in v c some le = record {
+    some = some;
+    apart = omega (arith, z .wide);
+    place = λ n j i r. omega (arith, z .wide, z .fits, digits-lt {q = n} {m = h} {r = v + j} {c = W} (omega arith) (omega (arith, z .wide)));
+  }
 
--- ---- the area while a pass runs
-module _ (k : Kernel) {W w h y : ℕ} {l₀ a₀ b₀ l a b : List ℕ} (z : Area W w h l₀ a₀ b₀) (p : RowsPassed 0 (maskLineBytes k) W w h y l₀ a₀ b₀ l a b) where
-  pub rows-now : Area W w h l a b
-  rows-now = rows-area l a b z (p .same-l) (p .same-a) (p .same-b) k y (p .passed)
+-- ---- what the first level's row y and its columns ask
+module _ {W H : ℕ} {l : List ℕ} (z : Whole W H l) where
+  pub row-parts : (y low : ℕ) → y < H → low ≡ W / 2 → Parts (y * W) (y * W + low) 1 (W / 2) l
+  row-parts y low h e = parts-of (y * W) (y * W + low) 1 W l (z .even-w) (omega arith) (z .some-w)
+      (omega (arith, z .full, mul-le-mul-right {m = y + 1} {n = H} W (omega arith))) (λ i p. z .marks .each (y * W + i))
 
-module _ (k : Kernel) {W w h x : ℕ} {l₀ a₀ b₀ l a b : List ℕ} (z : Area W w h l₀ a₀ b₀) (p : ColsPassed 0 (maskLineBytes k) W w h x l₀ a₀ b₀ l a b) where
-  pub cols-now : Area W w h l a b
-  cols-now = cols-area l a b z (p .same-l) (p .same-a) (p .same-b) k x (ap turned (p .passed))
+  pub col-parts : (low : ℕ) → low ≡ H / 2 → Parts 0 (low * W) W (H / 2) l
+  col-parts low e = parts-of 0 (low * W) W H l (z .even-h) (rw e (omega arith)) (z .some-h) (omega (arith, z .full)) (λ i p. z .marks .each (0 + i))
+
+  -- all columns at once
+  pub cols-at-once : (T : Transform ℕ) {l′ : List ℕ} → Local T → Lines T 0 0 W H W l l′ → picture 0 W l′ ≡ colPass T W H (picture 0 W l)
+  cols-at-once T {l′} local f =
+      let e : 0 + W ≡ W = omega arith in
+      ap turned (rw e at (col-more 0 W T local l l′ H 0 W (turned (picture 0 W l)) (z .even-h) (omega arith) f (pass-none T H (turned (picture 0 W l)))))
+
+  pub whole-same : {l′ : List ℕ} → length l′ ≡ length l → Binary l′ → Whole W H l′
+  whole-same e b = record { some-w = z .some-w; some-h = z .some-h; even-w = z .even-w; even-h = z .even-h; full = e ∙ z .full; marks = b }
+
+-- ---- the buffer while a pass runs
+module _ (k : Kernel) {W w h : ℕ} {l₀ x₀ l x : List ℕ} (z : Area W w h l₀ x₀) (q : length x ≡ length x₀) where
+  pub rows-now : {y : ℕ} → RowsMasked (maskLineBytes k) W w h y l₀ l → Area W w h l x
+  rows-now {y} p = rows-area l x z (p .same) q k y (p .passed)
+
+  pub cols-now : {y : ℕ} → ColsMasked (maskLineBytes k) W w h y l₀ l → Area W w h l x
+  cols-now {y} p = cols-area l x z (p .same) q k y (ap turned (p .passed))
+
+module _ (k : Kernel) {W H : ℕ} {l l′ : List ℕ} (z : Whole W H l) (e : length l′ ≡ length l) where
+  pub rows-whole : (y : ℕ) → picture 0 W l′ ≡ rowPass (onWoven (maskLineBytes k)) W y (picture 0 W l) → Whole W H l′
+  rows-whole y p = whole-same z e (rows-binary (placed-made k) (z .some-w) (z .marks) W y p)
+
+  pub cols-whole : picture 0 W l′ ≡ colPass (onWoven (maskLineBytes k)) W H (picture 0 W l) → Whole W H l′
+  cols-whole p = whole-same z e (cols-binary (placed-made k) (z .some-w) (z .marks) W H p)

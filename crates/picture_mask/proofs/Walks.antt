@@ -1,8 +1,4 @@
--- The walk on bytes is the walk on marks.
---
---   bytes B == the picture of the bytes of B's marks
---
--- Assumes nothing.
+-- The walk on bytes is the walk on marks. Assumes nothing.
 use mathlib.Core.Path.{_≡_, refl, ap, _∙_, fun-ext}
 use mathlib.Core.Bool.{Bool, true, false}
 use Prim.Native.Nat.{ℕ, zero, suc, _≤_}
@@ -12,10 +8,7 @@ use Rattle.kernel.specs.declared.Kernel.{Kernel}
 use Rattle.line.specs.Cells.{Line, choose}
 use Rattle.line.specs.Mask.{maskLine, marked, byteOf}
 use Rattle.grid.specs.Picture.{Picture, onLine, rowPass, turned, colPass, lowSide, walk}
-use Rattle.picture_mask.specs.Areas.{maskLineBytes}
-
-abbrev pub bytes : Picture Bool → Picture ℕ
-bytes B y x = byteOf (B y x)
+use Rattle.picture_mask.specs.Areas.{bytes, maskLineBytes}
 
 mark-of : (m : Bool) → marked (byteOf m) ≡ m
 mark-of true = refl

@@ -1,80 +1,71 @@
-// The mask of a region: the line mask walked over rows and columns, level by level.
+// The mask of a region: the line mask walked over rows and columns, level by level. The first level's marks are placed, each where its
+// coefficient ends, so that its passes move nothing; the deeper levels go through working memory.
 ghost use mathlib.Core.Path.{_≡_};
-ghost use mathlib.Core.Bool.{true};
-ghost use Prim.Native.Nat.{_*_, _-_, _/_, _%_, _<_};
+ghost use mathlib.Core.Bool.{Bool, true};
+ghost use Prim.Native.Nat.{_*_, _-_, _/_, _%_, _<_, min};
 ghost use lib.ListN.{length};
-ghost use Rattle.lifting.specs.Strip.{Strips};
-ghost use Rattle.grid.specs.Picture.{rowPass, colPass, walk, picture};
+ghost use Rattle.grid.specs.Picture.{Picture, rowPass, colPass, walk, picture};
 ghost use Rattle.grid.specs.Buffer.{InBuffer, Lines, Halves};
+ghost use Rattle.grid.specs.Placed.{onWoven, placed};
 ghost use Rattle.refusal.specs.Numbers.{answerNumber, first, accepted};
 ghost use Rattle.refusal.specs.Results.{Result};
-ghost use Rattle.picture_mask.specs.Masks.{maskAt, maskByte, maskTests};
-ghost use Rattle.picture_mask.specs.Areas.{Binary, Area, Region, maskLineBytes};
+ghost use Rattle.picture_mask.specs.Masks.{maskByte, maskTests};
+ghost use Rattle.picture_mask.specs.Areas.{Binary, Strip, Area, Whole, Region, bytes, maskOn, maskLineBytes};
 use kernel::Choice;
 use kernel::Kernel;
 use refusal::Answer;
 use refusal::Refusal;
 
-// Masks, in place, `lanes` lines of 2m marks, the first mark of line j at start + j, the others of it step apart.
+// Masks, through working memory, `lanes` lines of n marks, the first mark of line j at start + j, the others of it step apart.
 fn lines(
     kernel: Kernel,
     buf: &mut [u8],
-    a: &mut [u8],
-    b: &mut [u8],
+    strip: &mut [u8],
     start: usize,
     step: usize,
-    m: usize,
+    n: usize,
     lanes: usize,
 )
-    requires { ⌜ InBuffer (now buf) start step (2 * m) lanes ⌝ }
-    requires { ⌜ Strips m lanes (now a) (now b) ⌝ }
+    requires { ⌜ InBuffer (now buf) start step n lanes ⌝ }
+    requires { ⌜ Strip n lanes (now strip) ⌝ }
     requires { ⌜ Binary (now buf) ⌝ }
-    ensures { λ _. ⌜ Lines (maskLineBytes kernel) 0 start step (2 * m) lanes (now (buf .entry)) (now (buf .exit)) ⌝ }
+    ensures { λ _. ⌜ Lines (maskLineBytes kernel) 0 start step n lanes (now (buf .entry)) (now (buf .exit)) ⌝ }
 {
-    transfer::bytes::take(buf, a, start, 2 * step, m, lanes);
-    transfer::bytes::take(buf, b, start + step, 2 * step, m, lanes);
-    line_mask::mask(kernel, a, b, m, lanes);
-    transfer::bytes::put(a, buf, start, step, m, lanes);
-    transfer::bytes::put(b, buf, start + m * step, step, m, lanes);
+    let low = n - n / 2;
+    transfer::bytes::take(buf, strip, start, step, n, lanes);
+    line_mask::mask(kernel, strip, 0, low * lanes, n / 2, lanes);
+    transfer::bytes::put(strip, buf, start, step, n, lanes);
 }
 
 // The row pass over an area of w by h, in rows of stride bytes.
-fn row_pass(
-    kernel: Kernel,
-    buf: &mut [u8],
-    a: &mut [u8],
-    b: &mut [u8],
-    stride: usize,
-    w: usize,
-    h: usize,
-)
-    requires { ⌜ Area stride w h (now buf) (now a) (now b) ⌝ }
+fn row_pass(kernel: Kernel, buf: &mut [u8], strip: &mut [u8], stride: usize, w: usize, h: usize)
+    requires { ⌜ Area stride w h (now buf) (now strip) ⌝ }
     requires { ⌜ w % 2 ≡ 0 ⌝ }
     ensures { λ _. ⌜ picture 0 stride (now (buf .exit)) ≡ rowPass (maskLineBytes kernel) w h (picture 0 stride (now (buf .entry))) ⌝ }
 {
     for y in 0..h {
-        lines(kernel, buf, a, b, y * stride, 1, w / 2, 1);
+        lines(kernel, buf, strip, y * stride, 1, w, 1);
     }
 }
 
-// The column pass over the same area, a strip of columns at a time.
-fn col_pass(
-    kernel: Kernel,
-    buf: &mut [u8],
-    a: &mut [u8],
-    b: &mut [u8],
-    stride: usize,
-    w: usize,
-    h: usize,
-)
-    requires { ⌜ Area stride w h (now buf) (now a) (now b) ⌝ }
+// The smaller of two numbers.
+fn least(x: usize, y: usize) -> usize
+    ensures { λ r. ⌜ r ≡ min x y ⌝ }
+{
+    if x < y { x } else { y }
+}
+
+// The column pass over the same area, a strip of columns at a time: as many as the working memory holds.
+fn col_pass(kernel: Kernel, buf: &mut [u8], strip: &mut [u8], stride: usize, w: usize, h: usize)
+    requires { ⌜ Area stride w h (now buf) (now strip) ⌝ }
     requires { ⌜ h % 2 ≡ 0 ⌝ }
     ensures { λ _. ⌜ picture 0 stride (now (buf .exit)) ≡ colPass (maskLineBytes kernel) w h (picture 0 stride (now (buf .entry))) ⌝ }
 {
+    let most = 32768 / h;
     let mut x: usize = 0;
     while x < w {
-        let lanes = passes::least(passes::LANES, w - x);
-        lines(kernel, buf, a, b, x, stride, h / 2, lanes);
+        let lanes = least(most, w - x);
+        lines(kernel, buf, strip, x, stride, h, lanes);
         x += lanes;
     }
 }
@@ -83,20 +74,19 @@ fn col_pass(
 fn rows(
     kernel: Kernel,
     buf: &mut [u8],
-    a: &mut [u8],
-    b: &mut [u8],
+    strip: &mut [u8],
     stride: usize,
     w: usize,
     h: usize,
     levels: usize,
 )
-    requires { ⌜ Area stride w h (now buf) (now a) (now b) ⌝ }
+    requires { ⌜ Area stride w h (now buf) (now strip) ⌝ }
     requires { ⌜ Halves levels w h ⌝ }
     ensures { λ _. ⌜ picture 0 stride (now (buf .exit)) ≡ walk (maskLineBytes kernel) levels w h (picture 0 stride (now (buf .entry))) ⌝ }
 {
     if 0 < levels {
-        row_pass(kernel, buf, a, b, stride, w, h);
-        cols(kernel, buf, a, b, stride, w, h, levels);
+        row_pass(kernel, buf, strip, stride, w, h);
+        cols(kernel, buf, strip, stride, w, h, levels);
     }
 }
 
@@ -104,31 +94,52 @@ fn rows(
 fn cols(
     kernel: Kernel,
     buf: &mut [u8],
-    a: &mut [u8],
-    b: &mut [u8],
+    strip: &mut [u8],
     stride: usize,
     w: usize,
     h: usize,
     levels: usize,
 )
     requires { ⌜ 0 < levels ⌝ }
-    requires { ⌜ Area stride w h (now buf) (now a) (now b) ⌝ }
+    requires { ⌜ Area stride w h (now buf) (now strip) ⌝ }
     requires { ⌜ Halves levels w h ⌝ }
     ensures { λ _. ⌜ picture 0 stride (now (buf .exit)) ≡ walk (maskLineBytes kernel) (levels - 1) (w / 2) (h / 2) (colPass (maskLineBytes kernel) w h (picture 0 stride (now (buf .entry)))) ⌝ }
 {
-    col_pass(kernel, buf, a, b, stride, w, h);
-    rows(kernel, buf, a, b, stride, w / 2, h / 2, levels - 1);
+    col_pass(kernel, buf, strip, stride, w, h);
+    rows(kernel, buf, strip, stride, w / 2, h / 2, levels - 1);
 }
 
-// Makes, in place, the mask of the region that a buffer holds.
+// The first level's rows, which are placed: each is masked in its two parts.
+fn placed_rows(kernel: Kernel, marks: &mut [u8], w: usize, h: usize)
+    requires { ⌜ Whole w h (now marks) ⌝ }
+    ensures { λ _. ⌜ picture 0 w (now (marks .exit)) ≡ rowPass (onWoven (maskLineBytes kernel)) w h (picture 0 w (now (marks .entry))) ⌝ }
+{
+    let low = w - w / 2;
+    for y in 0..h {
+        let at = y * w;
+        line_mask::mask(kernel, marks, at, at + low, w / 2, 1);
+    }
+}
+
+// The first level's columns: whole rows are masked against whole rows.
+fn placed_cols(kernel: Kernel, marks: &mut [u8], w: usize, h: usize)
+    requires { ⌜ Whole w h (now marks) ⌝ }
+    ensures { λ _. ⌜ picture 0 w (now (marks .exit)) ≡ colPass (onWoven (maskLineBytes kernel)) w h (picture 0 w (now (marks .entry))) ⌝ }
+{
+    let low = h - h / 2;
+    line_mask::mask(kernel, marks, 0, low * w, h / 2, w);
+}
+
+// Makes, in place, the mask of the region that a buffer holds placed.
 pub fn mask_levels(kernel: Kernel, levels: usize, w: usize, h: usize, marks: &mut [u8])
     requires { ⌜ Region levels w h (now marks) ⌝ }
-    ensures { λ _. ⌜ Result 0 true (maskAt kernel levels w h (now (marks .entry))) (now (marks .entry)) (now (marks .exit)) ⌝ }
+    ensures { λ _. ⌜ ((B : Picture Bool) → picture 0 w (now (marks .entry)) ≡ placed w h (bytes B) → Result 0 true (maskOn kernel levels w h B) (now (marks .entry)) (now (marks .exit))) ⌝ }
 {
-    // Each holds half of the largest strip: 2,048 rows of LANES bytes.
-    let mut a = [0u8; 32768];
-    let mut b = [0u8; 32768];
-    rows(kernel, marks, &mut a, &mut b, w, w, h, levels);
+    placed_rows(kernel, marks, w, h);
+    placed_cols(kernel, marks, w, h);
+    // Below the first level a column has at most 2,048 marks: 16 columns and more have room.
+    let mut strip = [0u8; 32768];
+    rows(kernel, marks, &mut strip, w, w / 2, h / 2, levels - 1);
 }
 
 // Fills the lent mask of a picture of w by h samples from its region.
@@ -162,7 +173,7 @@ pub fn mask(
     if refusal::bad_mark(region) {
         return Answer::Refused(Refusal::Mark);
     }
-    transfer::bytes::copy(region, mask, 0, 0, w * h);
+    transfer::bytes::place(region, mask, w, h);
     mask_levels(chosen, levels, w, h, mask);
     Answer::Done
 }

@@ -6,11 +6,12 @@ use native.Mathlib.Omega.{arith}
 use lib.IntN.{ℤ}
 use Rattle.whole.specs.Within.{Within}
 use Rattle.kernel.specs.declared.Kernel.{Kernel}
+use Rattle.kernel.specs.declared.Kernel.the-variants.{S, SPlusP, TT, FiveThree}
 use Rattle.line.specs.Cells.{Line, behind}
 use Rattle.line.specs.Inner.{AllWithin}
 use Rattle.line.specs.Transform.{low, high, forward, back}
 use Rattle.line.proofs.Cells.{by-lt, joined-low, joined-high}
-use Rattle.line.proofs.Bounds.{low-within, high-within, back-within, within-more}
+use Rattle.line.proofs.Bounds.{low-within, high-within, backBound, back-within, within-more}
 use Rattle.grid.specs.Buffer.{Halves}
 use Rattle.grid.specs.Picture.{Picture, rowPass, turned, colPass, walk, walkBack}
 use Rattle.grid.proofs.Passes.{line-in, pass-in}
@@ -101,31 +102,34 @@ five (suc (suc (suc (suc (suc (suc n)))))) h = absurd (omega arith)
 pub transform-accepted : (k : Kernel) (J W H : ℕ) (P : Picture ℤ) → Halves J W H → J ≤ 5 → Below 1023 W H P → Below (2 ^ 22 - 1) W H (transformed k J W H P)
 transform-accepted k J W H P s j all = levels-within k J W H 1023 (2 ^ 22 - 1) P s (five J j) all
 
--- ---- back: lows within a and highs within b give a line within 3(a + b)/2 + 2
-unfoldable pub backBound : ℕ → ℕ → ℕ
-backBound a b = 3 * (a + b) / 2 + 2
-
+-- ---- back: lows within a and highs within b give a line within backBound k a b
 module _ (k : Kernel) (w h a b : ℕ) (P : Picture ℤ) (even : w % 2 ≡ 0)
     (lows : (y : ℕ) → y < h → AllWithin a (w / 2) (P y)) (highs : (y : ℕ) → y < h → AllWithin b (w / 2) (behind (w / 2) (P y))) where
-  row-back : Below (backBound a b) w h (rowPass (back k) w h P)
-  unfolding backBound
+  row-back : Below (backBound k a b) w h (rowPass (back k) w h P)
   row-back = record {
     each = λ y x p q. rw (pass-in (back k) w h y P p, line-in (back k) w (P y) x q) (back-within k w a b (P y) even (lows y p) (highs y p) x q);
   }
 
 -- what n levels undone make of numbers within m
-unfoldable pub undoBound : ℕ → ℕ → ℕ
-undoBound m zero = m
-undoBound m (suc n) = backBound (backBound (undoBound m n) m) (backBound m m)
+unfoldable pub undoBound : Kernel → ℕ → ℕ → ℕ
+undoBound k m zero = m
+undoBound k m (suc n) = backBound k (backBound k (undoBound k m n) m) (backBound k m m)
 
-bound-grows : (m n : ℕ) → m ≤ undoBound m n
-unfolding undoBound backBound
-bound-grows m zero = omega arith
-bound-grows m (suc n) = omega (arith, bound-grows m n)
+back-grows : (k : Kernel) (a b : ℕ) → a ≤ backBound k a b
+unfolding backBound
+back-grows S a b = omega arith
+back-grows SPlusP a b = omega arith
+back-grows TT a b = omega arith
+back-grows FiveThree a b = omega arith
+
+bound-grows : (k : Kernel) (m n : ℕ) → m ≤ undoBound k m n
+unfolding undoBound
+bound-grows k m zero = omega arith
+bound-grows k m (suc n) = omega (arith, bound-grows k m n, back-grows k (undoBound k m n) m, back-grows k (backBound k (undoBound k m n) m) (backBound k m m))
 
 -- one level more: R is the plane with the low quarter undone, C is R with its columns undone
 module _ (k : Kernel) (n w h m : ℕ) (P : Picture ℤ) (even-w : w % 2 ≡ 0) (even-h : h % 2 ≡ 0) (all : Below m w h P)
-    (quarter : Below (undoBound m n) (w / 2) (h / 2) (walkBack (back k) n (w / 2) (h / 2) P)) where
+    (quarter : Below (undoBound k m n) (w / 2) (h / 2) (walkBack (back k) n (w / 2) (h / 2) P)) where
   rest-below : (y x : ℕ) → h / 2 ≤ y → y < h → x < w → Within m (walkBack (back k) n (w / 2) (h / 2) P y x)
   rest-below y x ge p q = rw (back-below (back k) n (w / 2) (h / 2) y x P ge) (all .each y x p q)
 
@@ -133,43 +137,51 @@ module _ (k : Kernel) (n w h m : ℕ) (P : Picture ℤ) (even-w : w % 2 ≡ 0) (
   rest-right y x ge p q = rw (back-right (back k) n (w / 2) (h / 2) y x P ge) (all .each y x p q)
 
   -- the columns of R
-  pub column-lows : (x : ℕ) → x < w → AllWithin (undoBound m n) (h / 2) (turned (walkBack (back k) n (w / 2) (h / 2) P) x)
+  pub column-lows : (x : ℕ) → x < w → AllWithin (undoBound k m n) (h / 2) (turned (walkBack (back k) n (w / 2) (h / 2) P) x)
   column-lows x q y p = by-lt x (w / 2)
       (λ lt. quarter .each y x p lt)
-      (λ ge. within-more (rest-right y x ge (omega arith) q) (bound-grows m n))
+      (λ ge. within-more (rest-right y x ge (omega arith) q) (bound-grows k m n))
 
   pub column-highs : (x : ℕ) → x < w → AllWithin m (h / 2) (behind (h / 2) (turned (walkBack (back k) n (w / 2) (h / 2) P) x))
   column-highs x q y p = rest-below (h / 2 + y) x (omega arith) (omega arith) q
 
   -- the columns of C
   column-back : (x y a : ℕ) → x < w → y < h → AllWithin a (h / 2) (turned (walkBack (back k) n (w / 2) (h / 2) P) x)
-      → Within (backBound a m) (colPass (back k) w h (walkBack (back k) n (w / 2) (h / 2) P) y x)
-  unfolding backBound
+      → Within (backBound k a m) (colPass (back k) w h (walkBack (back k) n (w / 2) (h / 2) P) y x)
   column-back x y a q p lows =
       rw (pass-in (back k) h w x (turned (walkBack (back k) n (w / 2) (h / 2) P)) q, line-in (back k) h (turned (walkBack (back k) n (w / 2) (h / 2) P) x) y p)
       (back-within k h a m (turned (walkBack (back k) n (w / 2) (h / 2) P) x) even-h lows (column-highs x q) y p)
 
   -- the rows of C
-  pub row-lows : (y : ℕ) → y < h → AllWithin (backBound (undoBound m n) m) (w / 2) (colPass (back k) w h (walkBack (back k) n (w / 2) (h / 2) P) y)
-  row-lows y p x q = column-back x y (undoBound m n) (omega arith) p (column-lows x (omega arith))
+  pub row-lows : (y : ℕ) → y < h → AllWithin (backBound k (undoBound k m n) m) (w / 2) (colPass (back k) w h (walkBack (back k) n (w / 2) (h / 2) P) y)
+  row-lows y p x q = column-back x y (undoBound k m n) (omega arith) p (column-lows x (omega arith))
 
-  pub row-highs : (y : ℕ) → y < h → AllWithin (backBound m m) (w / 2) (behind (w / 2) (colPass (back k) w h (walkBack (back k) n (w / 2) (h / 2) P) y))
+  pub row-highs : (y : ℕ) → y < h → AllWithin (backBound k m m) (w / 2) (behind (w / 2) (colPass (back k) w h (walkBack (back k) n (w / 2) (h / 2) P) y))
   row-highs y p x q = column-back (w / 2 + x) y m (omega arith) p (λ i r. rest-right i (w / 2 + x) (omega arith) (omega arith) (omega arith))
 
-pub undo-within : (k : Kernel) (n w h m : ℕ) (P : Picture ℤ) → Halves n w h → Below m w h P → Below (undoBound m n) w h (walkBack (back k) n w h P)
+pub undo-within : (k : Kernel) (n w h m : ℕ) (P : Picture ℤ) → Halves n w h → Below m w h P → Below (undoBound k m n) w h (walkBack (back k) n w h P)
 unfolding walkBack Halves undoBound
 undo-within k zero w h m P s all = all
 undo-within k (suc n) w h m P s all =
     let quarter = undo-within k n (w / 2) (h / 2) m P (s .2) (below-part (w / 2) (h / 2) all (omega arith) (omega arith)) in
-    row-back k w h (backBound (undoBound m n) m) (backBound m m) _ (s .0)
+    row-back k w h (backBound k (undoBound k m n) m) (backBound k m m) _ (s .0)
     (row-lows k n w h m P (s .0) (s .1) all quarter) (row-highs k n w h m P (s .0) (s .1) all quarter)
 
 -- an accepted plane is within 2^22 − 1; up to four levels below, its lows and highs are what a line's way back takes
-pub undo-fits : (n : ℕ) → n ≤ 4 → (undoBound (2 ^ 22 - 1) n ≤ 2 ^ 30) × (backBound (undoBound (2 ^ 22 - 1) n) (2 ^ 22 - 1) ≤ 2 ^ 30) × (backBound (2 ^ 22 - 1) (2 ^ 22 - 1) ≤ 2 ^ 24)
+abbrev pub Fits : Kernel → ℕ → Type 0
+Fits k n = (undoBound k (2 ^ 22 - 1) n ≤ 2 ^ 28) × (backBound k (undoBound k (2 ^ 22 - 1) n) (2 ^ 22 - 1) ≤ 2 ^ 28) × (backBound k (2 ^ 22 - 1) (2 ^ 22 - 1) ≤ 2 ^ 24)
+
+each-kernel : (F : Kernel → Type 0) → F S → F SPlusP → F TT → F FiveThree → (k : Kernel) → F k
+each-kernel F a b c d S = a
+each-kernel F a b c d SPlusP = b
+each-kernel F a b c d TT = c
+each-kernel F a b c d FiveThree = d
+
+pub undo-fits : (k : Kernel) (n : ℕ) → n ≤ 4 → Fits k n
 unfolding undoBound backBound
-undo-fits zero h = omega arith
-undo-fits (suc zero) h = omega arith
-undo-fits (suc (suc zero)) h = omega arith
-undo-fits (suc (suc (suc zero))) h = omega arith
-undo-fits (suc (suc (suc (suc zero)))) h = omega arith
-undo-fits (suc (suc (suc (suc (suc n))))) h = absurd (omega arith)
+undo-fits k zero h = each-kernel (λ j. Fits j zero) (omega arith) (omega arith) (omega arith) (omega arith) k
+undo-fits k (suc zero) h = each-kernel (λ j. Fits j (suc zero)) (omega arith) (omega arith) (omega arith) (omega arith) k
+undo-fits k (suc (suc zero)) h = each-kernel (λ j. Fits j (suc (suc zero))) (omega arith) (omega arith) (omega arith) (omega arith) k
+undo-fits k (suc (suc (suc zero))) h = each-kernel (λ j. Fits j (suc (suc (suc zero)))) (omega arith) (omega arith) (omega arith) (omega arith) k
+undo-fits k (suc (suc (suc (suc zero)))) h = each-kernel (λ j. Fits j (suc (suc (suc (suc zero))))) (omega arith) (omega arith) (omega arith) (omega arith) k
+undo-fits k (suc (suc (suc (suc (suc n))))) h = absurd (omega arith)

@@ -28,7 +28,7 @@ made-filled {b} {at} {n} m = record {
       (λ past. rw (le-leb at i ge, le-ltb i (at + n) past) (m .above i past)));
 }
 
-within-intro : (at n i : ℕ) → at ≤ i → i < at + n → within at n i ≡ true
+pub within-intro : (at n i : ℕ) → at ≤ i → i < at + n → within at n i ≡ true
 within-intro at n i p q = and-both _ _ (le-leb at i p) (lt-ltb i (at + n) q)
 
 pub within-elim : (at n i : ℕ) → within at n i ≡ true → (at ≤ i) × (i < at + n)
@@ -36,7 +36,7 @@ within-elim at n i e = let p = and-parts (leb at i) (ltb i (at + n)) e in (leb-t
 
 -- ---- a rectangle
 module _ (x y w h c r : ℕ) where
-  box-intro : within x w c ≡ true → y ≤ r → r < y + h → inBox x y w h c r ≡ true
+  pub box-intro : within x w c ≡ true → y ≤ r → r < y + h → inBox x y w h c r ≡ true
   box-intro p q s = and-both _ _ (and-both _ _ p (le-leb y r q)) (lt-ltb r (y + h) s)
 
   pub box-elim : inBox x y w h c r ≡ true → (within x w c ≡ true) × (y ≤ r) × (r < y + h)
@@ -45,16 +45,16 @@ module _ (x y w h c r : ℕ) where
       let q = and-parts (within x w c) (leb y r) (p .0) in
       (q .0, leb-true y r (q .1), ltb-true r (y + h) (p .1))
 
-same : (a b : Bool) → (a ≡ true → b ≡ true) → (b ≡ true → a ≡ true) → a ≡ b
+pub same : (a b : Bool) → (a ≡ true → b ≡ true) → (b ≡ true → a ≡ true) → a ≡ b
 same true b f g = sym (f refl)
 same false true f g = g refl
 same false false f g = refl
 
-twice : (a b : Bool) (v z : ℕ) → choose a v (choose b v z) ≡ choose (a || b) v z
+pub twice : (a b : Bool) (v z : ℕ) → choose a v (choose b v z) ≡ choose (a || b) v z
 twice true b v z = refl
 twice false b v z = refl
 
-kept : (b : Bool) (v z : ℕ) → (b ≡ true → ⊥) → z ≡ choose b v z
+pub kept : (b : Bool) (v z : ℕ) → (b ≡ true → ⊥) → z ≡ choose b v z
 kept true v z h = absurd (h refl)
 kept false v z h = refl
 

@@ -1,3 +1,4 @@
 -- The laws of drawing rectangles.
 pub mod Boxes
 pub mod Painted
+pub mod Placed

@@ -1,6 +1,6 @@
 -- Drawing rectangles one after the other in a region that was cleared.
 --
---   Painted l W r n m == the region m of n places holds the first r rectangles of the numbers l
+--   Painted l col row r n m == the region m of n places holds the first r rectangles of the numbers l; place i is in column col i and row row i
 --
 -- Assumes nothing.
 use mathlib.Core.Path.{_≡_, refl, sym, ap, _∙_}
@@ -23,10 +23,10 @@ use Rattle.region.specs.Region.{inRectangle, inRegion, regionByte}
 use Rattle.region.specs.Drawing.{Filled, Drawn, Inside}
 use Rattle.region.proofs.Boxes.{within-elim, box-elim}
 
-pub record Painted (l : List ℕ) (W r n : ℕ) (m : List ℕ) : Type 0 where
+pub record Painted (l : List ℕ) (col row : ℕ → ℕ) (r n : ℕ) (m : List ℕ) : Type 0 where
   pub count : r ≤ length l / 4
   pub size : length m ≡ n
-  pub cell : (i : ℕ) → i < n → getD m i 0 ≡ byteOf (anyBelow r (λ k. inRectangle l k (i % W) (i / W)))
+  pub cell : (i : ℕ) → i < n → getD m i 0 ≡ byteOf (anyBelow r (λ k. inRectangle l k (col i) (row i)))
 
 joined : (a b : Bool) → choose b 1 (byteOf a) ≡ byteOf (a || b)
 joined true true = refl
@@ -34,8 +34,8 @@ joined true false = refl
 joined false true = refl
 joined false false = refl
 
-module _ {l : List ℕ} {W n : ℕ} where
-  pub painted-none : {m₀ m : List ℕ} → length m₀ ≡ n → Filled 0 0 n m₀ m → Painted l W 0 n m
+module _ {l : List ℕ} {col row : ℕ → ℕ} {n : ℕ} where
+  pub painted-none : {m₀ m : List ℕ} → length m₀ ≡ n → Filled 0 0 n m₀ m → Painted l col row 0 n m
   unfolding anyBelow
   painted-none e f = record {
     count = omega arith;
@@ -43,17 +43,17 @@ module _ {l : List ℕ} {W n : ℕ} where
     cell = λ i h. f .cell i ∙ rw (le-leb 0 i (omega arith), lt-ltb i (0 + n) (omega arith));
   }
 
-  pub painted-more : {r : ℕ} {m m′ : List ℕ} → Painted l W r n m → r < length l / 4
-      → Drawn (getD l (4 * r) 0) (getD l (4 * r + 1) 0) (getD l (4 * r + 2) 0) (getD l (4 * r + 3) 0) W m m′ → Painted l W (r + 1) n m′
+  pub painted-more : {r : ℕ} {m m′ : List ℕ} → Painted l col row r n m → r < length l / 4 → length m′ ≡ length m
+      → ((i : ℕ) → i < n → getD m′ i 0 ≡ choose (inRectangle l r (col i) (row i)) 1 (getD m i 0)) → Painted l col row (r + 1) n m′
   unfolding anyBelow
-  painted-more {r} p h d = record {
+  painted-more {r} p h same drawn = record {
     count = omega arith;
-    size = d .size ∙ p .size;
-    cell = λ i h. d .cell i ∙ ap (choose (inRectangle l r (i % W) (i / W)) 1) (p .cell i h)
-        ∙ joined (anyBelow r (λ k. inRectangle l k (i % W) (i / W))) (inRectangle l r (i % W) (i / W)) ∙ rw (add-one r);
+    size = same ∙ p .size;
+    cell = λ i h. drawn i h ∙ ap (choose (inRectangle l r (col i) (row i)) 1) (p .cell i h)
+        ∙ joined (anyBelow r (λ k. inRectangle l k (col i) (row i))) (inRectangle l r (col i) (row i)) ∙ rw (add-one r);
   }
 
-  pub painted-all : {r : ℕ} {m₀ m : List ℕ} → Painted l W r n m → length l / 4 ≤ r → length m₀ ≡ n → Result 0 true (regionByte l W) m₀ m
+  pub painted-all : {r : ℕ} {m₀ m : List ℕ} → Painted l col row r n m → length l / 4 ≤ r → length m₀ ≡ n → Result 0 true (λ i. byteOf (inRegion l (col i) (row i))) m₀ m
   unfolding inRegion
   painted-all {r} p h e = let q : r ≡ length l / 4 = omega (arith, p .count) in record { size = p .size ∙ sym e; cell = λ i b. rw q at (p .cell i (omega arith)) }
 

@@ -1,13 +1,14 @@
 // The region that rectangles draw.
 ghost use mathlib.Core.Path.{_≡_};
 ghost use mathlib.Core.Bool.{true};
-ghost use Prim.Native.Nat.{_+_, _*_, _≤_};
+ghost use Prim.Native.Nat.{_+_, _*_, _%_, _<_, _≤_};
 ghost use lib.ListN.{length};
+ghost use Rattle.grid.specs.Placed.{woven};
 ghost use Rattle.refusal.specs.Numbers.{answerNumber, first, accepted};
 ghost use Rattle.refusal.specs.Results.{Result};
 ghost use Rattle.refusal.specs.Tests as tests;
 ghost use Rattle.region.specs.Region.{regionByte, regionTests};
-ghost use Rattle.region.specs.Drawing.{Filled, Drawn, Inside};
+ghost use Rattle.region.specs.Drawing.{Filled, Drawn, Inside, placedByte, DrawnPlaced, Framed};
 use refusal::Answer;
 use refusal::Refusal;
 
@@ -108,6 +109,57 @@ fn rectangle(region: &mut [u8], w: usize, x: u32, y: u32, across: u32, down: u32
     let rows = down as usize;
     for k in 0..rows {
         fill(region, (top + k) * w + left, n, 1);
+    }
+}
+
+// Where cell n of a line of `side` cells ends, its evens in front and its odds behind.
+fn place(n: usize, side: usize) -> usize
+    requires { ⌜ (side % 2 ≡ 0) × (n < side) ⌝ }
+    ensures { λ r. ⌜ r ≡ woven side (λ i. i) n ⌝ }
+{
+    if n % 2 == 0 {
+        n / 2
+    } else {
+        side - side / 2 + n / 2
+    }
+}
+
+// Sets the samples of a rectangle, each where its coefficient of the first level ends: of each row a run of evens and a run of odds.
+fn rectangle_placed(region: &mut [u8], w: usize, h: usize, x: u32, y: u32, across: u32, down: u32)
+    requires { ⌜ (x + across ≤ w) × (y + down ≤ h) ⌝ }
+    requires { ⌜ (w % 2 ≡ 0) × (h % 2 ≡ 0) × (length (now region) ≡ h * w) ⌝ }
+    ensures { λ _. ⌜ DrawnPlaced x y across down w h (now (region .entry)) (now (region .exit)) ⌝ }
+{
+    let left = x as usize;
+    let right = left + across as usize;
+    let top = y as usize;
+    let rows = down as usize;
+    let even = (left + 1) / 2;
+    let odd = left / 2;
+    for k in 0..rows {
+        let at = place(top + k, h) * w;
+        fill(region, at + even, (right + 1) / 2 - even, 1);
+        fill(region, at + (w - w / 2) + odd, right / 2 - odd, 1);
+    }
+}
+
+// Clears the region, and draws each rectangle placed.
+pub fn draw_placed(numbers: &[u32], w: usize, h: usize, region: &mut [u8])
+    requires { ⌜ Framed (now numbers) w h (length (now region)) ⌝ }
+    ensures { λ _. ⌜ Result 0 true (placedByte (now (numbers .entry)) w h) (now (region .entry)) (now (region .exit)) ⌝ }
+{
+    clear(region);
+    for r in 0..numbers.len() / 4 {
+        let k = 4 * r;
+        rectangle_placed(
+            region,
+            w,
+            h,
+            numbers[k],
+            numbers[k + 1],
+            numbers[k + 2],
+            numbers[k + 3],
+        );
     }
 }
 

@@ -1,51 +1,72 @@
--- A loop that turns the pairs of two runs into other pairs, one after the other.
+-- A loop that turns the pairs of two runs of a buffer into other pairs, one after the other.
 --
---   Pairing f g n a b a′ b′ k == so far the first k of n pairs are what f and g say of them
+--   Pairing f g a b n l l′ k == so far the first k of n pairs, from places a and b on, are what f and g say of them
+--   Seen l l′ k q            == the k-th number from place q on of l′, read back from its bits, is that of l
 --
 -- Assumes nothing.
-use mathlib.Core.Path.{_≡_, _∙_}
+use mathlib.Core.Path.{_≡_, refl, _∙_}
 use mathlib.Core.List.{List}
 use Prim.Native.Nat.{ℕ, _+_, _<_, _≤_, _^_}
 use native.Mathlib.Omega.{arith}
-use lib.IntN.{ℤ}
-use lib.ListN.{length, set}
+use borrow.Author.Count.{below-more}
+use borrow.Author.Needs.{sfits-of}
+use lib.IntN.{ℤ, pos}
+use lib.ListN.{length, set, length-set}
+use lib.Seq.{getD-set-same, getD-set-other}
 use lib.Signed.{mag}
 use mir.Syntax.{w32}
-use mir.Val.{SFits, toZ, ofZ, hbits}
+use mir.Val.{toZ, ofZ, hbits}
 use mir.Facts.{toZ-ofZ}
-use borrow.Author.Needs.{sfits-of}
 use Rattle.line.specs.Cells.{cell}
-use Rattle.runs.specs.Cells.{Written}
-use Rattle.runs.proofs.Writes.{written-none, written-more, written-all}
+use Rattle.runs.specs.Cells.{Pairs}
+use Rattle.runs.specs.Steps.{Apart}
 
-pub record Pairing (f g : ℤ → ℤ → ℤ) (n : ℕ) (a b a′ b′ : List ℤ) (k : ℕ) : Type 0 where
-  pub room : (n ≤ length a) × (n ≤ length b)
+pub record Pairing (f g : ℤ → ℤ → ℤ) (a b n : ℕ) (l l′ : List ℤ) (k : ℕ) : Type 0 where
+  pub room : (a + n ≤ length l) × (b + n ≤ length l)
   pub count : k ≤ n
-  pub first : Written (λ i. f (cell a i) (cell b i)) 0 k a a′
-  pub second : Written (λ i. g (cell a i) (cell b i)) 0 k b b′
+  pub so-far : Pairs (λ i. f (cell l (a + i)) (cell l (b + i))) (λ i. g (cell l (a + i)) (cell l (b + i))) a b k l l′
 
-pub pairing-none : {f g : ℤ → ℤ → ℤ} {n : ℕ} {a b : List ℤ} → (n ≤ length a) × (n ≤ length b) → Pairing f g n a b a b 0
-pairing-none h = record { room = h; count = omega arith; first = written-none; second = written-none }
+abbrev pub Seen : List ℤ → List ℤ → ℕ → ℕ → Type 0
+Seen l l′ k q = toZ w32 (ofZ w32 (cell l′ (q + k))) ≡ cell l (q + k)
 
-pub pairing-all : {f g : ℤ → ℤ → ℤ} {n k : ℕ} {a b a′ b′ : List ℤ} → Pairing f g n a b a′ b′ k → n ≤ k
-    → Written (λ i. f (cell a i) (cell b i)) 0 n a a′ × Written (λ i. g (cell a i) (cell b i)) 0 n b b′
-pairing-all {n = n} m h = (written-all n (m .first) (omega (arith, m .count)), written-all n (m .second) (omega (arith, m .count)))
+pub pairing-none : {f g : ℤ → ℤ → ℤ} {a b n : ℕ} {l : List ℤ} → (a + n ≤ length l) × (b + n ≤ length l) → Pairing f g a b n l l 0
+pairing-none h = record {
+  room = h;
+  count = omega arith;
+  so-far = record { size = refl; first = λ k h. absurd (omega arith); second = λ k h. absurd (omega arith); off = λ i p q. refl };
+}
 
--- a turn takes the next pair, each number of it read back from its bits
-module _ {f g : ℤ → ℤ → ℤ} {n k : ℕ} {a b a′ b′ : List ℤ}
-    (m : Pairing f g n a b a′ b′ k) (p : mag (cell a′ k) < 2 ^ hbits w32) (q : mag (cell b′ k) < 2 ^ hbits w32) where
-  read : (h : ℤ → ℤ → ℤ) → h (toZ w32 (ofZ w32 (cell a′ k))) (toZ w32 (ofZ w32 (cell b′ k))) ≡ h (cell a k) (cell b k)
-  read h = rw (toZ-ofZ (sfits-of p), toZ-ofZ (sfits-of q), m .first .above k (omega arith), m .second .above k (omega arith))
+pub pairing-all : {f g : ℤ → ℤ → ℤ} {a b n k : ℕ} {l l′ : List ℤ} → Pairing f g a b n l l′ k → n ≤ k
+    → Pairs (λ i. f (cell l (a + i)) (cell l (b + i))) (λ i. g (cell l (a + i)) (cell l (b + i))) a b n l l′
+pairing-all {n = n} {k = k} m h = let e : n ≡ k = omega (arith, m .count) in rw e (m .so-far)
 
-  pub pair-fits : (h : ℤ → ℤ → ℤ) → SFits w32 (h (cell a k) (cell b k)) → SFits w32 (h (toZ w32 (ofZ w32 (cell a′ k))) (toZ w32 (ofZ w32 (cell b′ k))))
-  pair-fits h fit = rw (read h) fit
+-- a turn writes the next pair
+module _ {f g : ℤ → ℤ → ℤ} {a b n k : ℕ} {l l′ : List ℤ} (apart : Apart a b n) (m : Pairing f g a b n l l′ k) (h : k < n) where
+  pub seen-pair : mag (cell l′ (a + k)) < 2 ^ hbits w32 → mag (cell l′ (b + k)) < 2 ^ hbits w32 → Seen l l′ k a × Seen l l′ k b
+  seen-pair p q = (
+    toZ-ofZ (sfits-of p) ∙ m .so-far .off (a + k) (λ j j< e. omega arith) (λ j j< e. apart k j h (omega arith) e),
+    toZ-ofZ (sfits-of q) ∙ m .so-far .off (b + k) (λ j j< e. apart j k (omega arith) h (omega arith)) (λ j j< e. omega arith),
+  )
 
-  pub pairing-more : {v w : ℤ} → k < n → mag v < 2 ^ hbits w32 → mag w < 2 ^ hbits w32
-      → v ≡ f (toZ w32 (ofZ w32 (cell a′ k))) (toZ w32 (ofZ w32 (cell b′ k))) → w ≡ g (toZ w32 (ofZ w32 (cell a′ k))) (toZ w32 (ofZ w32 (cell b′ k)))
-      → Pairing f g n a b (set a′ k (toZ w32 (ofZ w32 v))) (set b′ k (toZ w32 (ofZ w32 w))) (k + 1)
-  pairing-more h fv fw ev ew = record {
-    room = m .room;
-    count = omega arith;
-    first = written-more k (m .first) (omega arith) (omega (arith, m .room)) (toZ-ofZ (sfits-of fv) ∙ ev ∙ read f);
-    second = written-more k (m .second) (omega arith) (omega (arith, m .room)) (toZ-ofZ (sfits-of fw) ∙ ew ∙ read g);
-  }
+  pub pairing-more : {v w : ℤ} → v ≡ f (cell l (a + k)) (cell l (b + k)) → w ≡ g (cell l (a + k)) (cell l (b + k))
+      → Pairing f g a b n l (set (set l′ (a + k) v) (b + k) w) (k + 1)
+  pairing-more {v} {w} d e =
+      let size = m .so-far .size in
+      let mid = set l′ (a + k) v in
+      let long : length mid ≡ length l′ = length-set l′ (a + k) v in
+      let other : (i : ℕ) → (i ≡ a + k → ⊥) → (i ≡ b + k → ⊥) → cell (set mid (b + k) w) i ≡ cell l′ i
+      = λ i p q. getD-set-other mid (b + k) i w (pos 0) q ∙ getD-set-other l′ (a + k) i v (pos 0) p in
+      record {
+        room = m .room;
+        count = omega arith;
+        so-far = record {
+          size = length-set mid (b + k) w ∙ long ∙ size;
+          first = below-more (λ i. cell (set mid (b + k) w) (a + i) ≡ f (cell l (a + i)) (cell l (b + i))) k
+              (λ i i<. other (a + i) (omega arith) (apart i k (omega arith) h) ∙ m .so-far .first i i<)
+              (getD-set-other mid (b + k) (a + k) w (pos 0) (apart k k h h) ∙ getD-set-same l′ (a + k) v (pos 0) (omega (arith, m .room)) ∙ d);
+          second = below-more (λ i. cell (set mid (b + k) w) (b + i) ≡ g (cell l (a + i)) (cell l (b + i))) k
+              (λ i i<. other (b + i) (λ p. apart k i h (omega arith) (omega arith)) (omega arith) ∙ m .so-far .second i i<)
+              (getD-set-same mid (b + k) w (pos 0) (omega (arith, m .room)) ∙ e);
+          off = λ i p q. other i (p k (omega arith)) (q k (omega arith)) ∙ m .so-far .off i (λ j j<. p j (omega arith)) (λ j j<. q j (omega arith));
+        };
+      }

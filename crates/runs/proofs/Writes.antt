@@ -1,20 +1,22 @@
--- A run of numbers that a loop writes, one after the other: nothing is written at first, each turn writes one number more, and what is not yet
--- written is as it was (`.above`). Assumes nothing.
+-- A run of numbers that a loop writes, one after the other: nothing is written at first, each turn writes one number more, and what is not
+-- written is as it was. Assumes nothing.
 use mathlib.Core.Path.{_≡_, refl, _∙_}
 use mathlib.Core.List.{List}
-use Prim.Native.Nat.{ℕ, _+_, _<_}
+use Prim.Native.Nat.{ℕ, _+_, _-_, _<_}
 use native.Mathlib.Omega.{arith}
 use borrow.Author.Count.{below-more}
 use lib.IntN.{ℤ, pos}
 use lib.ListN.{length, set, length-set}
 use lib.Seq.{getD-set-same, getD-set-other}
 use Rattle.line.specs.Cells.{cell}
+use Rattle.line.proofs.Cells.{by-lt}
 use Rattle.runs.specs.Cells.{Written}
 
 pub written-none : {g : ℕ → ℤ} {s : ℕ} {l : List ℤ} → Written g s 0 l l
 written-none = record { size = refl; on = λ k h. absurd (omega arith); below = λ i h. refl; above = λ i h. refl }
 
-pub written-more : {g : ℕ → ℤ} {s k : ℕ} {l l′ : List ℤ} {v : ℤ} (i : ℕ) → Written g s k l l′ → i ≡ s + k → i < length l → v ≡ g k → Written g s (k + 1) l (set l′ i v)
+pub written-more : {g : ℕ → ℤ} {s k : ℕ} {l l′ : List ℤ} {v : ℤ} (i : ℕ) → Written g s k l l′ → i ≡ s + k → i < length l → v ≡ g k
+    → Written g s (k + 1) l (set l′ i v)
 written-more {g} {s} {k} {l} {l′} {v} i w place h e =
     let size = w .size in
     let other : (j : ℕ) → (j ≡ i → ⊥) → cell (set l′ i v) j ≡ cell l′ j
@@ -30,3 +32,8 @@ written-more {g} {s} {k} {l} {l′} {v} i w place h e =
 
 pub written-all : {g : ℕ → ℤ} {s k : ℕ} {l l′ : List ℤ} (n : ℕ) → Written g s k l l′ → k ≡ n → Written g s n l l′
 written-all n w e = rw (← e) w
+
+pub written-kept : {g : ℕ → ℤ} {s k : ℕ} {l l′ : List ℤ} → Written g s k l l′ → (i : ℕ) → ((j : ℕ) → j < k → s + j ≡ i → ⊥)
+    → cell l′ i ≡ cell l i
+written-kept {g} {s} {k} w i off = by-lt i s (w .below i)
+    (λ ge. by-lt i (s + k) (λ lt. absurd (off (i - s) (omega arith) (omega arith))) (w .above i))

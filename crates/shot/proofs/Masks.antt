@@ -1,5 +1,5 @@
 -- The mask of drawn rectangles is that of their region. Assumes nothing.
-use mathlib.Core.Path.{_≡_, refl, sym, ap, _∙_, fun-ext}
+use mathlib.Core.Path.{_≡_, sym, ap, _∙_, fun-ext}
 use mathlib.Core.Bool.{Bool, true, false}
 use mathlib.Core.List.{List}
 use Prim.Native.Nat.{ℕ, _+_, _*_, _/_, _%_, _<_, _≤_}
@@ -9,26 +9,27 @@ use lib.Arith.{digits-div, digits-mod, digits-lt}
 use lib.ListN.{length, getD, List·getD-eq-default}
 use borrow.Author.Tests.{lt-ltb, le-ltb}
 use Rattle.kernel.specs.declared.Kernel.{Kernel}
-use Rattle.line.specs.Mask.{marked, byteOf}
+use Rattle.line.specs.Mask.{byteOf}
 use Rattle.line.proofs.Cells.{by-lt}
 use Rattle.line.proofs.Lists.{listed-length, listed-cell, is-listed}
 use Rattle.grid.specs.Picture.{Picture, picture}
+use Rattle.grid.specs.Placed.{placed}
+use Rattle.grid.proofs.Passes.{cell}
+use Rattle.grid.proofs.Parted.{placed-cell, placed-below, placed-right}
 use Rattle.plane.specs.Plane.{maskOf}
 use Rattle.refusal.specs.Results.{Result}
-use Rattle.region.specs.Region.{inRegion, regionByte}
+use Rattle.region.specs.Region.{inRegion}
+use Rattle.region.specs.Drawing.{placedByte, Framed}
 use Rattle.region.proofs.Painted.{outside-none}
-use Rattle.picture_mask.specs.Masks.{regionOf, maskAt}
-use Rattle.picture_mask.specs.Areas.{Region}
+use Rattle.region.proofs.Placed.{rectangles-framed}
+use Rattle.picture_mask.specs.Areas.{Region, bytes, maskOn}
+use Rattle.picture_mask.proofs.Entry.{sides-even}
 use Rattle.shot.specs.Inner.{Drawable}
 use Rattle.shot.specs.Shots.{drawn, maskBytes}
 
 byte-most : (b : Bool) → byteOf b ≤ 1
 byte-most true = omega arith
 byte-most false = omega arith
-
-mark-byte : (b : Bool) → marked (byteOf b) ≡ b
-mark-byte true = refl
-mark-byte false = refl
 
 -- ---- as many bytes as coefficients, each 0 or 1
 module _ (k : Kernel) (J W H : ℕ) (l : List ℕ) where
@@ -40,34 +41,50 @@ module _ (k : Kernel) (J W H : ℕ) (l : List ℕ) where
   unfolding maskBytes
   mask-binary i h = rw (listed-cell {A = ℕ} (W * H) _ 2 i h) (omega (arith, byte-most (maskOf k J W H (drawn l) (i / W) (i % W))))
 
--- ---- the mask that a buffer then holds
-module _ (J W H : ℕ) (l m₀ m : List ℕ) (d : Drawable J W H l (length m₀)) (r : Result 0 true (regionByte l W) m₀ m) where
-  full : length m ≡ W * H
-  full = r .size ∙ d .full
+-- ---- the mask that a buffer then holds: the region is drawn there, placed
+module _ (J W H : ℕ) (l m₀ : List ℕ) (d : Drawable J W H l (length m₀)) where
+  even : (W % 2 ≡ 0) × (H % 2 ≡ 0) × (H ≤ 4096)
+  even = sides-even J W H (d .levels) (d .size)
 
-  pub drawn-region : Region J W H m
-  drawn-region = record {
-    size = d .size;
-    full = full;
-    marks = record {
-      each = λ i. by-lt i (length m)
-          (λ lt. let e = r .cell i (omega (arith, r .size)) in let b = byte-most (inRegion l (i % W) (i / W)) in omega arith)
-          (λ ge. let z : getD m i 0 ≡ 0 = List·getD-eq-default m 0 ge in omega arith);
-    };
-  }
+  pub drawable-framed : Framed l W H (length m₀)
+  drawable-framed = rectangles-framed (d .inside) (even .0) (even .1) (d .full ∙ mul-comm W H)
 
-  -- the buffer holds the region, and nothing is drawn right of it or below it
-  region-drawn : regionOf W m ≡ drawn l
-  unfolding picture
-  region-drawn = fun-ext λ y. fun-ext λ x. by-lt x W
-      (λ lt. by-lt y H
-      (λ below. let i : y * W + x < length m₀ = omega (arith, d .full, mul-comm W H, digits-lt below lt) in
-      rw (lt-ltb x W lt, r .cell (y * W + x) i, digits-div y lt, digits-mod y lt) (mark-byte (inRegion l x y)))
-      (λ past. let g : length m ≤ y * W + x = omega (arith, full, mul-comm W H, mul-le-mul-right W past) in
-      rw (lt-ltb x W lt, List·getD-eq-default m 0 g) (sym (outside-none W H l (d .inside) x y (λ a b. omega arith)))))
-      (λ ge. rw (le-ltb x W ge) (sym (outside-none W H l (d .inside) x y (λ a b. omega arith))))
+  module _ (m : List ℕ) (r : Result 0 true (placedByte l W H) m₀ m) where
+    full : length m ≡ W * H
+    full = r .size ∙ d .full
 
-  pub mask-bytes : (k : Kernel) (m′ : List ℕ) → Result 0 true (maskAt k J W H m) m m′ → m′ ≡ maskBytes k J W H l
-  unfolding maskBytes
-  mask-bytes k m′ p = is-listed (W * H) _ 0 m′ (p .size ∙ full)
-      (λ i h. p .cell i (omega (arith, full)) ∙ ap (λ (B : Picture Bool). byteOf (maskOf k J W H B (i / W) (i % W))) region-drawn)
+    pub drawn-region : Region J W H m
+    drawn-region = record {
+      levels = d .levels;
+      size = d .size;
+      full = full;
+      marks = record {
+        each = λ i. by-lt i (length m)
+            (λ lt. let e = r .cell i (omega (arith, r .size)) in let b = byte-most (placed W H (λ v u. inRegion l u v) (i / W) (i % W)) in omega arith)
+            (λ ge. let z : getD m i 0 ≡ 0 = List·getD-eq-default m 0 ge in omega arith);
+      };
+    }
+
+    -- inside the picture, and right of it or below it, where nothing is drawn
+    drawn-inside : (y x : ℕ) → y < H → x < W → picture 0 W m y x ≡ placed W H (bytes (drawn l)) y x
+    drawn-inside y x i j =
+        let h : y * W + x < length m₀ = omega (arith, d .full, mul-comm W H, digits-lt i j) in
+        cell 0 W m y x j ∙ r .cell (y * W + x) h ∙ rw (digits-div y j, digits-mod y j)
+        (ap byteOf (placed-cell W H (drawn l) (even .0) (even .1) y x i j) ∙ sym (placed-cell W H (bytes (drawn l)) (even .0) (even .1) y x i j))
+
+    nothing : (y x : ℕ) → (x < W → y < H → ⊥) → bytes (drawn l) y x ≡ 0
+    nothing y x out = ap byteOf (outside-none W H l (d .inside) x y out)
+
+    drawn-placed : picture 0 W m ≡ placed W H (bytes (drawn l))
+    unfolding picture
+    drawn-placed = fun-ext λ y. fun-ext λ x. by-lt x W
+        (λ lt. by-lt y H
+        (λ i. drawn-inside y x i lt)
+        (λ ge. let g : length m ≤ y * W + x = omega (arith, full, mul-comm W H, mul-le-mul-right W ge) in
+        rw (lt-ltb x W lt, List·getD-eq-default m 0 g) (sym (placed-below W H (bytes (drawn l)) (even .0) (even .1) y x ge ∙ nothing y x (λ a b. omega arith)))))
+        (λ ge. rw (le-ltb x W ge) (sym (placed-right W H (bytes (drawn l)) (even .0) (even .1) y x ge ∙ nothing y x (λ a b. omega arith))))
+
+    pub mask-bytes : (k : Kernel) (m′ : List ℕ) → ((B : Picture Bool) → picture 0 W m ≡ placed W H (bytes B) → Result 0 true (maskOn k J W H B) m m′)
+        → m′ ≡ maskBytes k J W H l
+    unfolding maskBytes
+    mask-bytes k m′ all = let p = all (drawn l) drawn-placed in is-listed (W * H) _ 0 m′ (p .size ∙ full) (λ i h. p .cell i (omega (arith, full)))

@@ -8,7 +8,7 @@
 use mathlib.Core.Path.{_≡_}
 use mathlib.Core.Bool.{false}
 use mathlib.Core.List.{List}
-use Prim.Native.Nat.{ℕ, _*_}
+use Prim.Native.Nat.{ℕ, _*_, _<_}
 use Rattle.kernel.specs.declared.Kernel.{Kernel}
 use Rattle.kernel.specs.Kernels.{theKernel}
 use Rattle.refusal.specs.Numbers.{refusalNumber, first}
@@ -26,6 +26,7 @@ pub record Set (k J D W H : ℕ) (r : Setting) : Type 0 where
   pub kernel : (chosen : Kernel) → r ≡ Taken chosen → chosen ≡ theKernel k
 
 pub record Drawable (J W H : ℕ) (l : List ℕ) (n : ℕ) : Type 0 where
+  pub levels : 0 < J
   pub size : badSizeAt J W H ≡ false
   pub inside : badRectangles W H l ≡ false
   pub full : n ≡ W * H

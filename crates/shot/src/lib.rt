@@ -32,7 +32,7 @@ pub fn take_setting(kernel: usize, levels: usize, depth: usize, w: usize, h: usi
     Setting::Taken(chosen)
 }
 
-// Fills the mask from rectangle numbers: draws their region there, and makes its mask in place.
+// Fills the mask from rectangle numbers: draws their region there, placed, and makes its mask in place.
 pub fn draw_mask(
     kernel: Kernel,
     levels: usize,
@@ -44,6 +44,6 @@ pub fn draw_mask(
     requires { ⌜ Drawable levels w h (now numbers) (length (now mask)) ⌝ }
     ensures { λ _. ⌜ now (mask .exit) ≡ maskBytes kernel levels w h (now (numbers .entry)) ⌝ }
 {
-    region::draw(numbers, w, mask);
+    region::draw_placed(numbers, w, h, mask);
     picture_mask::mask_levels(kernel, levels, w, h, mask);
 }

@@ -1,66 +1,83 @@
-// The formulas of the line transforms on single numbers. Sums are taken in 64 bits; what is stored fits 32.
+// The formulas of the line transforms on single numbers, in sums of 32 bits: what a formula asks of its numbers is a bound under which they fit.
 ghost use mathlib.Core.Path.{_≡_};
+ghost use Prim.Native.Nat.{_*_, _^_};
 ghost use mir.Syntax.{w32};
 ghost use mir.Val.{SFits};
+ghost use Rattle.whole.specs.Within.{Within};
 ghost use Rattle.line.specs.Formulas as formula;
 ghost use Rattle.steps.specs.Moved.{moved};
 
 pub fn mean(a: i32, b: i32) -> i32
+    requires { ⌜ Within (2 ^ 29) a × Within (2 ^ 29) b ⌝ }
     ensures { λ r. ⌜ r ≡ formula.mean a b ⌝ }
 {
-    whole::floor2(a as i64 + b as i64) as i32
+    whole::floor2(a + b)
 }
 
 pub fn difference(a: i32, b: i32) -> i32
     requires { ⌜ SFits w32 (formula.difference a b) ⌝ }
     ensures { λ r. ⌜ r ≡ formula.difference a b ⌝ }
 {
-    (a as i64 - b as i64) as i32
+    a - b
 }
 
-// The first number of a pair, from its mean and its difference.
-pub fn first_of(mean: i32, difference: i32) -> i32
-    requires { ⌜ SFits w32 (formula.firstOf mean difference) ⌝ }
-    ensures { λ r. ⌜ r ≡ formula.firstOf mean difference ⌝ }
+// The second number of a pair, from its mean and its difference.
+pub fn second_of(mean: i32, difference: i32) -> i32
+    requires { ⌜ SFits w32 (formula.secondOf mean difference) ⌝ }
+    ensures { λ r. ⌜ r ≡ formula.secondOf mean difference ⌝ }
 {
-    let half = whole::floor2(difference as i64 + 1);
-    (mean as i64 + half) as i32
+    mean - whole::floor2(difference)
 }
 
-pub fn slope_a(before: i32, after: i32) -> i64
+pub fn slope_a(before: i32, after: i32) -> i32
+    requires { ⌜ Within (2 ^ 29) before × Within (2 ^ 29) after ⌝ }
     ensures { λ r. ⌜ r ≡ formula.slopeA before after ⌝ }
 {
-    whole::floor4(before as i64 - after as i64)
+    whole::floor4(before - after)
 }
 
-pub fn slope_tt(before2: i32, before: i32, after: i32, after2: i32) -> i64
+// 22 of the inner difference and 3 of the outer, by products that need no multiplication: 3 · (7 · inner + outer) + inner.
+pub fn slope_tt(before2: i32, before: i32, after: i32, after2: i32) -> i32
+    requires { ⌜ Within (5 * 2 ^ 22) before2 × Within (5 * 2 ^ 22) before ⌝ }
+    requires { ⌜ Within (5 * 2 ^ 22) after × Within (5 * 2 ^ 22) after2 ⌝ }
     ensures { λ r. ⌜ r ≡ formula.slopeTT before2 before after after2 ⌝ }
 {
-    let near = 22 * (before as i64 - after as i64);
-    let far = 3 * (after2 as i64 - before2 as i64);
-    whole::floor64(near + far - 32)
+    let inner = before - after;
+    let outer = after2 - before2;
+    whole::floor64(3 * (7 * inner + outer) + inner - 32)
 }
 
-pub fn between(here: i32, after: i32) -> i64
+// The same for larger numbers: 22 times a multiple of 32 is 11 times a multiple of 64, which the division takes off.
+pub fn slope_tt_wide(before2: i32, before: i32, after: i32, after2: i32) -> i32
+    requires { ⌜ Within (2 ^ 28) before2 × Within (2 ^ 28) before ⌝ }
+    requires { ⌜ Within (2 ^ 28) after × Within (2 ^ 28) after2 ⌝ }
+    ensures { λ r. ⌜ r ≡ formula.slopeTT before2 before after after2 ⌝ }
+{
+    let inner = before - after;
+    let outer = after2 - before2;
+    let q = whole::floor32(inner);
+    let rest = inner - 32 * q;
+    11 * q + whole::floor64(3 * (7 * rest + outer) + rest - 32)
+}
+
+pub fn between(here: i32, after: i32) -> i32
+    requires { ⌜ Within (2 ^ 29) here × Within (2 ^ 29) after ⌝ }
     ensures { λ r. ⌜ r ≡ formula.between here after ⌝ }
 {
-    whole::floor2(here as i64 + after as i64)
+    whole::floor2(here + after)
 }
 
-pub fn smoothing(before: i32, here: i32) -> i64
+pub fn smoothing(before: i32, here: i32) -> i32
+    requires { ⌜ Within (2 ^ 29) before × Within (2 ^ 29) here ⌝ }
     ensures { λ r. ⌜ r ≡ formula.smoothing before here ⌝ }
 {
-    whole::floor4(before as i64 + here as i64 + 2)
+    whole::floor4(before + here + 2)
 }
 
 // An amount added to a number, or taken from it.
-pub fn shifted(t: i32, amount: i64, add: bool) -> i32
+pub fn shifted(t: i32, amount: i32, add: bool) -> i32
     requires { ⌜ SFits w32 (moved add t amount) ⌝ }
     ensures { λ r. ⌜ r ≡ moved add t amount ⌝ }
 {
-    if add {
-        (t as i64 + amount) as i32
-    } else {
-        (t as i64 - amount) as i32
-    }
+    if add { t + amount } else { t - amount }
 }

@@ -1,8 +1,6 @@
 -- Rows of cells, of any kind, that are copied: row by row in a loop, or cell by cell where a row is one cell, or all at once where the rows
 -- follow each other. So strips are taken from a buffer, and put into it.
 --
---   Rows x f g m c l          == m rows of c cells begin in x at f 0, f 1, .., and have room in l, one after the other, from g 0, g 1, .. on
---   Moved o x f g m c l l′    == l′ is l with those rows of x at those places
 --   Moving o x f g m c l l′ n == so far the first n of the rows are moved
 --
 -- Assumes nothing.
@@ -17,17 +15,8 @@ use lib.ListN.{length, getD, set}
 use Rattle.line.proofs.Cells.{by-lt}
 use Rattle.grid.specs.Buffer.{InBuffer, Taken, Put}
 use Rattle.transfer.specs.Copied.{Room, Copied}
+use Rattle.transfer.specs.Moved.{Rows, Moved}
 use Rattle.transfer.proofs.Copies.{copied-one}
-
-pub record Rows {A : Type 0} (x : List A) (f g : ℕ → ℕ) (m c : ℕ) (l : List A) : Type 0 where
-  pub some : 0 < c
-  pub room : (n : ℕ) → n < m → Room x (f n) (g n) c l
-  pub apart : (r n j : ℕ) → r < n → j < c → g r + j < g n
-
-pub record Moved {A : Type 0} (o : A) (x : List A) (f g : ℕ → ℕ) (m c : ℕ) (l l′ : List A) : Type 0 where
-  pub size : length l′ ≡ length l
-  pub on : (n j : ℕ) → n < m → j < c → getD l′ (g n + j) o ≡ getD x (f n + j) o
-  pub off : (i : ℕ) → ((n j : ℕ) → n < m → j < c → i ≡ g n + j → ⊥) → getD l′ i o ≡ getD l i o
 
 pub record Moving {A : Type 0} (o : A) (x : List A) (f g : ℕ → ℕ) (m c : ℕ) (l l′ : List A) (n : ℕ) : Type 0 where
   pub rows : Rows x f g m c l

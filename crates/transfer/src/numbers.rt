@@ -1,12 +1,12 @@
-// Strips of lines of numbers.
-ghost use Prim.Native.Nat.{_*_, _≤_};
+// Rows and lines of numbers.
+ghost use Prim.Native.Nat.{ℕ, _+_, _*_, _<_};
 ghost use lib.IntN.{pos};
-ghost use lib.ListN.{length};
-ghost use Rattle.grid.specs.Buffer.{InBuffer, Taken, Put};
+ghost use lib.ListN.{length, getD};
 ghost use Rattle.transfer.specs.Copied.{Room, Copied};
+ghost use Rattle.transfer.specs.Moved.{Rows, Moved, Places, Twofold};
 
 // Copies n numbers of src, from `from` on, to dst, from `at` on.
-fn copy(src: &[i32], dst: &mut [i32], from: usize, at: usize, n: usize)
+pub fn copy(src: &[i32], dst: &mut [i32], from: usize, at: usize, n: usize)
     requires { ⌜ Room (now src) from at n (now dst) ⌝ }
     ensures { λ _. ⌜ Copied (pos 0) (now (src .entry)) from at n (now (dst .entry)) (now (dst .exit)) ⌝ }
 {
@@ -15,80 +15,57 @@ fn copy(src: &[i32], dst: &mut [i32], from: usize, at: usize, n: usize)
     }
 }
 
-// One line, its numbers step apart in buf.
-fn take_line(buf: &[i32], strip: &mut [i32], start: usize, step: usize, m: usize)
-    requires { ⌜ InBuffer (now buf) start step m 1 ⌝ }
-    requires { ⌜ m ≤ length (now strip) ⌝ }
-    ensures { λ _. ⌜ Taken (pos 0) (now (buf .entry)) start step m 1 (now (strip .entry)) (now (strip .exit)) ⌝ }
+// Copies m rows of n numbers, which begin step apart in src and stride apart in dst.
+pub fn copy_rows(
+    src: &[i32],
+    dst: &mut [i32],
+    from: usize,
+    step: usize,
+    at: usize,
+    stride: usize,
+    m: usize,
+    n: usize,
+)
+    requires { ⌜ Rows (now src) (λ i. from + i * step) (λ i. at + i * stride) m n (now dst) ⌝ }
+    ensures { λ _. ⌜ Moved (pos 0) (now (src .entry)) (λ i. from + i * step) (λ i. at + i * stride) m n (now (dst .entry)) (now (dst .exit)) ⌝ }
 {
-    for n in 0..m {
-        strip[n] = buf[start + n * step];
+    for i in 0..m {
+        copy(src, dst, from + i * step, at + i * stride, n);
     }
 }
 
-// Number n of every line at once, for each n.
-fn take_rows(buf: &[i32], strip: &mut [i32], start: usize, step: usize, m: usize, lanes: usize)
-    requires { ⌜ InBuffer (now buf) start step m lanes ⌝ }
-    requires { ⌜ m * lanes ≤ length (now strip) ⌝ }
-    ensures { λ _. ⌜ Taken (pos 0) (now (buf .entry)) start step m lanes (now (strip .entry)) (now (strip .exit)) ⌝ }
+// Parts 2m numbers of src, from `from` on: the evens to a, the odds to b.
+pub fn part(src: &[i32], dst: &mut [i32], from: usize, a: usize, b: usize, m: usize)
+    requires { ⌜ ((k : ℕ) → k < m → from + 2 * k + 1 < length (now src)) ⌝ }
+    requires { ⌜ Places (λ k. a + k) (λ k. b + k) m (now dst) ⌝ }
+    ensures { λ _. ⌜ Twofold (pos 0) (λ k. getD (now (src .entry)) (from + 2 * k) (pos 0)) (λ k. getD (now (src .entry)) (from + 2 * k + 1) (pos 0)) (λ k. a + k) (λ k. b + k) m (now (dst .entry)) (now (dst .exit)) ⌝ }
 {
-    for n in 0..m {
-        copy(buf, strip, start + n * step, n * lanes, lanes);
+    for k in 0..m {
+        dst[a + k] = src[from + 2 * k];
+        dst[b + k] = src[from + 2 * k + 1];
     }
 }
 
-// The strip of `lanes` lines of m numbers of buf, the first number of line j at start + j, the others of it step apart.
-pub fn take(buf: &[i32], strip: &mut [i32], start: usize, step: usize, m: usize, lanes: usize)
-    requires { ⌜ InBuffer (now buf) start step m lanes ⌝ }
-    requires { ⌜ m * lanes ≤ length (now strip) ⌝ }
-    ensures { λ _. ⌜ Taken (pos 0) (now (buf .entry)) start step m lanes (now (strip .entry)) (now (strip .exit)) ⌝ }
+// The same from samples.
+pub fn part_samples(src: &[u16], dst: &mut [i32], from: usize, a: usize, b: usize, m: usize)
+    requires { ⌜ ((k : ℕ) → k < m → from + 2 * k + 1 < length (now src)) ⌝ }
+    requires { ⌜ Places (λ k. a + k) (λ k. b + k) m (now dst) ⌝ }
+    ensures { λ _. ⌜ Twofold (pos 0) (λ k. pos (getD (now (src .entry)) (from + 2 * k) 0)) (λ k. pos (getD (now (src .entry)) (from + 2 * k + 1) 0)) (λ k. a + k) (λ k. b + k) m (now (dst .entry)) (now (dst .exit)) ⌝ }
 {
-    if step == lanes {
-        copy(buf, strip, start, 0, m * lanes);
-        return;
-    }
-    if lanes == 1 {
-        take_line(buf, strip, start, step, m);
-        return;
-    }
-    take_rows(buf, strip, start, step, m, lanes);
-}
-
-// One line, its numbers step apart in buf.
-fn put_line(strip: &[i32], buf: &mut [i32], start: usize, step: usize, m: usize)
-    requires { ⌜ InBuffer (now buf) start step m 1 ⌝ }
-    requires { ⌜ m ≤ length (now strip) ⌝ }
-    ensures { λ _. ⌜ Put (pos 0) (now (strip .entry)) start step m 1 (now (buf .entry)) (now (buf .exit)) ⌝ }
-{
-    for n in 0..m {
-        buf[start + n * step] = strip[n];
+    for k in 0..m {
+        dst[a + k] = src[from + 2 * k] as i32;
+        dst[b + k] = src[from + 2 * k + 1] as i32;
     }
 }
 
-// Number n of every line at once, for each n.
-fn put_rows(strip: &[i32], buf: &mut [i32], start: usize, step: usize, m: usize, lanes: usize)
-    requires { ⌜ InBuffer (now buf) start step m lanes ⌝ }
-    requires { ⌜ m * lanes ≤ length (now strip) ⌝ }
-    ensures { λ _. ⌜ Put (pos 0) (now (strip .entry)) start step m lanes (now (buf .entry)) (now (buf .exit)) ⌝ }
+// Weaves m numbers of src from a on and m from b on: they follow each other in turn in dst, from `at` on.
+pub fn weave(src: &[i32], dst: &mut [i32], a: usize, b: usize, at: usize, m: usize)
+    requires { ⌜ ((k : ℕ) → k < m → (a + k < length (now src)) × (b + k < length (now src))) ⌝ }
+    requires { ⌜ Places (λ k. at + 2 * k) (λ k. at + 2 * k + 1) m (now dst) ⌝ }
+    ensures { λ _. ⌜ Twofold (pos 0) (λ k. getD (now (src .entry)) (a + k) (pos 0)) (λ k. getD (now (src .entry)) (b + k) (pos 0)) (λ k. at + 2 * k) (λ k. at + 2 * k + 1) m (now (dst .entry)) (now (dst .exit)) ⌝ }
 {
-    for n in 0..m {
-        copy(strip, buf, n * lanes, start + n * step, lanes);
+    for k in 0..m {
+        dst[at + 2 * k] = src[a + k];
+        dst[at + 2 * k + 1] = src[b + k];
     }
-}
-
-// The strip back into buf.
-pub fn put(strip: &[i32], buf: &mut [i32], start: usize, step: usize, m: usize, lanes: usize)
-    requires { ⌜ InBuffer (now buf) start step m lanes ⌝ }
-    requires { ⌜ m * lanes ≤ length (now strip) ⌝ }
-    ensures { λ _. ⌜ Put (pos 0) (now (strip .entry)) start step m lanes (now (buf .entry)) (now (buf .exit)) ⌝ }
-{
-    if step == lanes {
-        copy(strip, buf, 0, start, m * lanes);
-        return;
-    }
-    if lanes == 1 {
-        put_line(strip, buf, start, step, m);
-        return;
-    }
-    put_rows(strip, buf, start, step, m, lanes);
 }

@@ -3,54 +3,37 @@ use mathlib.Core.Path.{_≡_, sym, ap, subst, _∙_, fun-ext}
 use mathlib.Core.Bool.{true}
 use mathlib.Core.List.{List}
 use Prim.Native.Nat.{ℕ, zero, suc, _+_, _*_, _-_, _/_, _%_, _^_, _<_, _≤_}
-use native.Mathlib.Nat.{mul-comm}
+use native.Mathlib.Nat.{mul-comm, mul-le-mul-right}
 use native.Mathlib.Omega.{arith}
 use lib.Arith.{digits-lt}
 use lib.IntN.{ℤ, pos, negsuc, natAbs}
 use lib.ListN.{length, getD, List·getD-eq-default}
-use borrow.Author.Tests.{lt-ltb, le-ltb}
 use Rattle.whole.specs.Within.{Within}
 use Rattle.kernel.specs.declared.Kernel.{Kernel}
 use Rattle.kernel.specs.Kernels.{theKernel}
 use Rattle.line.proofs.Cells.{by-lt}
 use Rattle.line.proofs.Bounds.{within-more}
 use Rattle.grid.specs.Picture.{Picture, picture}
-use Rattle.grid.specs.Buffer.{Taken}
-use Rattle.grid.proofs.Passes.{cell, cell-of}
+use Rattle.grid.specs.Placed.{gathered}
+use Rattle.grid.proofs.Passes.{cell, cell-past, cell-of}
+use Rattle.grid.proofs.Gathered.{gathered-below, gathered-right}
+use Rattle.placing.specs.Placed.{Placed}
 use Rattle.plane.specs.Inner.{Below}
 use Rattle.plane.specs.Plane.{transformed, undone}
 use Rattle.refusal.specs.Results.{Result}
 use Rattle.wavelet.specs.Wavelet.{samplesOf, coefficientsOf, coefficient, undoneNumber}
 use Rattle.wavelet.specs.Walks.{areaBound, Levels, Sized}
 
--- ---- buffers that hold the same
-plane-same : (W : ℕ) (l : List ℤ) (P : Picture ℤ) → ((y x : ℕ) → x < W → getD l (y * W + x) (pos 0) ≡ P y x) → ((y x : ℕ) → W ≤ x → pos 0 ≡ P y x) → coefficientsOf W l ≡ P
-unfolding picture
-plane-same W l P inside right = fun-ext λ y. fun-ext λ x. by-lt x W
-    (λ lt. simp (lt-ltb x W lt) (inside y x lt))
-    (λ ge. simp (le-ltb x W ge) (right y x ge))
-
-pub widened : (W : ℕ) (s : List ℕ) (l l′ : List ℤ) → length s ≡ length l → Result (pos 0) true (λ i. pos (getD s i 0)) l l′ → coefficientsOf W l′ ≡ samplesOf W s
-unfolding picture
-widened W s l l′ e r = plane-same W l′ (samplesOf W s)
-    (λ y x lt. simp (lt-ltb x W lt) (at (y * W + x)))
-    (λ y x ge. simp (le-ltb x W ge))
+-- ---- a plane that is placed for the way back is the plane again, gathered
+pub placed-plane : (J W H : ℕ) (p u u′ : List ℤ) → length p ≡ W * H → length u ≡ W * H → Placed J W W W H p u u′ → gathered J W H (coefficientsOf W u′) ≡ coefficientsOf W p
+placed-plane J W H p u u′ e f q = fun-ext λ y. fun-ext λ x. by-lt x W
+    (λ j. by-lt y H
+    (λ i. q .inside y x i j)
+    (λ i. gathered-below J W H y x (coefficientsOf W u′) i ∙ past u′ y x i j (q .size ∙ f) ∙ sym (past p y x i j e)))
+    (λ j. gathered-right J W H y x (coefficientsOf W u′) j ∙ cell-past (pos 0) W u′ y x j ∙ sym (cell-past (pos 0) W p y x j))
   where
-    at : (i : ℕ) → getD l′ i (pos 0) ≡ pos (getD s i 0)
-    at i = by-lt i (length l)
-        (λ lt. r .cell i lt)
-        (λ ge. List·getD-eq-default l′ (pos 0) (rw (r .size) ge) ∙ ap pos (sym (List·getD-eq-default s 0 (rw e ge))))
-
-pub copied : (W n : ℕ) (p u u′ : List ℤ) → length p ≡ n → length u ≡ n → Taken (pos 0) p 0 1 n 1 u u′ → coefficientsOf W u′ ≡ coefficientsOf W p
-unfolding picture
-copied W n p u u′ e f t = plane-same W u′ (coefficientsOf W p)
-    (λ y x lt. simp (lt-ltb x W lt) (at (y * W + x)))
-    (λ y x ge. simp (le-ltb x W ge))
-  where
-    at : (i : ℕ) → getD u′ i (pos 0) ≡ getD p i (pos 0)
-    at i = by-lt i n
-        (λ lt. ap (λ k. getD u′ k (pos 0)) (omega arith) ∙ t .on i 0 lt (omega arith) ∙ ap (λ k. getD p k (pos 0)) (omega arith))
-        (λ ge. List·getD-eq-default u′ (pos 0) (rw (t .size, f) ge) ∙ sym (List·getD-eq-default p (pos 0) (rw e ge)))
+    past : (l : List ℤ) (y x : ℕ) → H ≤ y → x < W → length l ≡ W * H → coefficientsOf W l y x ≡ pos 0
+    past l y x i j s = cell (pos 0) W l y x j ∙ List·getD-eq-default l (pos 0) (let le : H * W ≤ y * W = mul-le-mul-right W i in omega (arith, mul-comm W H))
 
 -- the filled buffer, cell by cell
 pub filled : (W H : ℕ) (l l′ : List ℤ) (P : Picture ℤ) → length l′ ≡ length l → length l ≡ W * H → coefficientsOf W l′ ≡ P → Result (pos 0) true (λ i. P (i / W) (i % W)) l l′
@@ -60,8 +43,8 @@ filled W H l l′ P same size e = record {
 }
 
 -- ---- sizes and bounds
-pub sized-levels : {J W H m n : ℕ} (l a b : List ℤ) → Sized J W H m n → length l ≡ n → 32768 ≤ length a → 32768 ≤ length b → Levels W W H J l a b
-sized-levels {J} {W} {H} {m} {n} l a b z e p q = record {
+pub sized-levels : {J W H m n size : ℕ} → Sized J W H m n → size ≡ n → Levels W W H J size
+sized-levels {J} {W} {H} z e = record {
   halves = z .halves;
   few = z .few;
   some-w = z .some-w;
@@ -70,8 +53,6 @@ sized-levels {J} {W} {H} {m} {n} l a b z e p q = record {
   h-most = z .h-most;
   wide = omega arith;
   fits = omega (arith, mul-comm W H, z .to);
-  a-room = p;
-  b-room = q;
 }
 
 areaBound-least : (n : ℕ) → n ≤ 5 → 1023 ≤ areaBound n

@@ -1,11 +1,12 @@
 // The wavelet transform of a picture and its way back: rows and columns, level by level.
 ghost use mathlib.Core.Path.{_≡_};
-ghost use Prim.Native.Nat.{_-_, _+_, _*_, _/_, _%_, _^_, _<_};
+ghost use Prim.Native.Nat.{_-_, _+_, _*_, _/_, _%_, _^_, _<_, _≤_};
 ghost use lib.IntN.{pos};
-ghost use lib.ListN.{length, getD};
+ghost use lib.ListN.{length};
 ghost use mathlib.Core.Bool.{true};
 ghost use Rattle.line.specs.Transform as line;
 ghost use Rattle.grid.specs.Picture.{colPass, lowSide, walk, walkBack};
+ghost use Rattle.grid.specs.Placed.{gathered};
 ghost use Rattle.plane.specs.Plane as planes;
 ghost use Rattle.plane.specs.Inner.{Below};
 ghost use Rattle.plane.specs.Plane.{transformed};
@@ -21,76 +22,45 @@ use refusal::Refusal;
 // A level and those below it: the row pass, and then `cols`.
 fn rows(
     kernel: Kernel,
-    buf: &mut [i32],
-    a: &mut [i32],
-    b: &mut [i32],
+    l: &mut [i32],
+    q: &mut [i32],
     stride: usize,
     w: usize,
     h: usize,
     levels: usize,
 )
-    requires { ⌜ Levels stride w h levels (now buf) (now a) (now b) ⌝ }
-    requires { ⌜ Below (areaBound levels) w h (coefficientsOf stride (now buf)) ⌝ }
-    ensures { λ _. ⌜ coefficientsOf stride (now (buf .exit)) ≡ walk (line.forward kernel) levels w h (coefficientsOf stride (now (buf .entry))) ⌝ }
+    requires { ⌜ Levels stride w h levels (length (now l)) ⌝ }
+    requires { ⌜ 32768 ≤ length (now q) ⌝ }
+    requires { ⌜ Below (areaBound levels) w h (coefficientsOf stride (now l)) ⌝ }
+    ensures { λ _. ⌜ coefficientsOf stride (now (l .exit)) ≡ walk (line.forward kernel) levels w h (coefficientsOf stride (now (l .entry))) ⌝ }
 {
     if 0 < levels {
-        passes::row_pass(kernel, false, buf, a, b, stride, w, h);
-        cols(kernel, buf, a, b, stride, w, h, levels);
+        passes::row_pass(kernel, false, l, q, stride, w, h);
+        cols(kernel, l, q, stride, w, h, levels);
     }
 }
 
 // The column pass of a level, and then `rows` on the low quarter.
 fn cols(
     kernel: Kernel,
-    buf: &mut [i32],
-    a: &mut [i32],
-    b: &mut [i32],
+    l: &mut [i32],
+    q: &mut [i32],
     stride: usize,
     w: usize,
     h: usize,
     levels: usize,
 )
     requires { ⌜ 0 < levels ⌝ }
-    requires { ⌜ Levels stride w h levels (now buf) (now a) (now b) ⌝ }
-    requires { ⌜ Below (3 * areaBound levels + 2) w h (coefficientsOf stride (now buf)) ⌝ }
-    ensures { λ _. ⌜ coefficientsOf stride (now (buf .exit)) ≡ walk (line.forward kernel) (levels - 1) (lowSide w) (lowSide h) (colPass (line.forward kernel) w h (coefficientsOf stride (now (buf .entry)))) ⌝ }
+    requires { ⌜ Levels stride w h levels (length (now l)) ⌝ }
+    requires { ⌜ 32768 ≤ length (now q) ⌝ }
+    requires { ⌜ Below (3 * areaBound levels + 2) w h (coefficientsOf stride (now l)) ⌝ }
+    ensures { λ _. ⌜ coefficientsOf stride (now (l .exit)) ≡ walk (line.forward kernel) (levels - 1) (lowSide w) (lowSide h) (colPass (line.forward kernel) w h (coefficientsOf stride (now (l .entry)))) ⌝ }
 {
-    passes::col_pass(kernel, false, buf, a, b, stride, w, h);
-    rows(kernel, buf, a, b, stride, w / 2, h / 2, levels - 1);
+    passes::col_pass(kernel, l, q, stride, w, h);
+    rows(kernel, l, q, stride, w / 2, h / 2, levels - 1);
 }
 
-// The way back: the levels below, then the columns and the rows of this one.
-fn undo_levels(
-    kernel: Kernel,
-    buf: &mut [i32],
-    a: &mut [i32],
-    b: &mut [i32],
-    stride: usize,
-    w: usize,
-    h: usize,
-    levels: usize,
-)
-    requires { ⌜ Levels stride w h levels (now buf) (now a) (now b) ⌝ }
-    requires { ⌜ Below (2 ^ 22 - 1) w h (coefficientsOf stride (now buf)) ⌝ }
-    ensures { λ _. ⌜ coefficientsOf stride (now (buf .exit)) ≡ walkBack (line.back kernel) levels w h (coefficientsOf stride (now (buf .entry))) ⌝ }
-{
-    if 0 < levels {
-        undo_levels(kernel, buf, a, b, stride, w / 2, h / 2, levels - 1);
-        passes::col_pass(kernel, true, buf, a, b, stride, w, h);
-        passes::row_pass(kernel, true, buf, a, b, stride, w, h);
-    }
-}
-
-// Copies samples to a plane.
-fn widen(samples: &[u16], plane: &mut [i32])
-    requires { ⌜ length (now samples) ≡ length (now plane) ⌝ }
-    ensures { λ _. ⌜ Result (pos 0) true (λ i. pos (getD (now (samples .entry)) i 0)) (now (plane .entry)) (now (plane .exit)) ⌝ }
-{
-    for i in 0..plane.len() {
-        plane[i] = samples[i] as i32;
-    }
-}
-
+// The first level stores each row where it ends, and lifts its columns there as whole rows; the levels below have no second buffer.
 fn transform_all(
     kernel: Kernel,
     levels: usize,
@@ -103,10 +73,10 @@ fn transform_all(
     requires { ⌜ Below 1023 w h (samplesOf w (now samples)) ⌝ }
     ensures { λ _. ⌜ Result (pos 0) true (λ i. transformed kernel levels w h (samplesOf w (now (samples .entry))) (i / w) (i % w)) (now (plane .entry)) (now (plane .exit)) ⌝ }
 {
-    widen(samples, plane);
-    let mut a = [0i32; 32768];
-    let mut b = [0i32; 32768];
-    rows(kernel, plane, &mut a, &mut b, w, w, h, levels);
+    passes::rows_in(kernel, samples, plane, w, h);
+    passes::columns(kernel, false, plane, w, w, h);
+    let mut q = [0i32; 32768];
+    rows(kernel, plane, &mut q, w, w / 2, h / 2, levels - 1);
 }
 
 // The plane of a picture of w by h samples of `depth` bits.
@@ -149,15 +119,36 @@ pub fn transform(
     Answer::Done
 }
 
+// The way back, in place on rows `stride` apart: the levels below, on every other row, then the columns and the rows of this one.
+fn undo_levels(
+    kernel: Kernel,
+    l: &mut [i32],
+    q: &mut [i32],
+    stride: usize,
+    w: usize,
+    h: usize,
+    levels: usize,
+)
+    requires { ⌜ Levels stride w h levels (length (now l)) ⌝ }
+    requires { ⌜ w ≤ length (now q) ⌝ }
+    requires { ⌜ Below (2 ^ 22 - 1) w h (gathered levels w h (coefficientsOf stride (now l))) ⌝ }
+    ensures { λ _. ⌜ coefficientsOf stride (now (l .exit)) ≡ walkBack (line.back kernel) levels w h (gathered levels w h (coefficientsOf stride (now (l .entry)))) ⌝ }
+{
+    if 0 < levels {
+        undo_levels(kernel, l, q, 2 * stride, w / 2, h / 2, levels - 1);
+        passes::columns(kernel, true, l, stride, w, h);
+        passes::row_pass(kernel, true, l, q, stride, w, h);
+    }
+}
+
 fn undo_all(kernel: Kernel, levels: usize, w: usize, h: usize, plane: &[i32], undone: &mut [i32])
     requires { ⌜ Sized levels w h (length (now plane)) (length (now undone)) ⌝ }
     requires { ⌜ Below (2 ^ 22 - 1) w h (coefficientsOf w (now plane)) ⌝ }
     ensures { λ _. ⌜ Result (pos 0) true (λ i. planes.undone kernel levels w h (coefficientsOf w (now (plane .entry))) (i / w) (i % w)) (now (undone .entry)) (now (undone .exit)) ⌝ }
 {
-    transfer::numbers::take(plane, undone, 0, 1, w * h, 1);
-    let mut a = [0i32; 32768];
-    let mut b = [0i32; 32768];
-    undo_levels(kernel, undone, &mut a, &mut b, w, w, h, levels);
+    placing::place(plane, undone, w, w, w, h, levels);
+    let mut q = [0i32; 4096];
+    undo_levels(kernel, undone, &mut q, w, w, h, levels);
 }
 
 // The undone numbers of a plane of w by h coefficients.

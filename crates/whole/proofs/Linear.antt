@@ -42,7 +42,7 @@ parts-eq (pos a) (negsuc b) e = absurd (omega arith)
 parts-eq (negsuc a) (pos b) e = absurd (omega arith)
 parts-eq (negsuc a) (negsuc b) e = ap negsuc (omega arith)
 
-add-parts : (x y : ℤ) → Parts (x +ℤ y) (up x + up y) (dn x + dn y)
+pub add-parts : (x y : ℤ) → Parts (x +ℤ y) (up x + up y) (dn x + dn y)
 add-parts (pos a) (pos b) = record { balance = omega arith }
 add-parts (pos a) (negsuc b) = let h = sub-parts a (suc b) in record { balance = omega arith }
 add-parts (negsuc a) (pos b) = let h = sub-parts b (suc a) in record { balance = omega arith }

@@ -1,24 +1,31 @@
-// Signed floor division by 2, 4 and 64, from the language's division, which rounds towards zero; and magnitudes.
+// Floor division of signed numbers by 2, 4, 32 and 64, from the language's division of unsigned ones; and magnitudes.
 ghost use mathlib.Core.Path.{_≡_};
 ghost use lib.IntN.{natAbs};
 ghost use Rattle.whole.specs.Floor.{floorDiv};
 
-pub fn floor2(x: i64) -> i64
+// 2^31 more is never negative, and its quotient is 2^31 / 2 more: no case for negative numbers.
+pub fn floor2(x: i32) -> i32
     ensures { λ r. ⌜ r ≡ floorDiv x 2 ⌝ }
 {
-    if x >= 0 { x / 2 } else { (x + 1) / 2 - 1 }
+    ((x as i64 + 2147483648) as u32 / 2) as i32 - 1073741824
 }
 
-pub fn floor4(x: i64) -> i64
+pub fn floor4(x: i32) -> i32
     ensures { λ r. ⌜ r ≡ floorDiv x 4 ⌝ }
 {
-    if x >= 0 { x / 4 } else { (x + 1) / 4 - 1 }
+    ((x as i64 + 2147483648) as u32 / 4) as i32 - 536870912
 }
 
-pub fn floor64(x: i64) -> i64
+pub fn floor32(x: i32) -> i32
+    ensures { λ r. ⌜ r ≡ floorDiv x 32 ⌝ }
+{
+    ((x as i64 + 2147483648) as u32 / 32) as i32 - 67108864
+}
+
+pub fn floor64(x: i32) -> i32
     ensures { λ r. ⌜ r ≡ floorDiv x 64 ⌝ }
 {
-    if x >= 0 { x / 64 } else { (x + 1) / 64 - 1 }
+    ((x as i64 + 2147483648) as u32 / 64) as i32 - 33554432
 }
 
 // The magnitude of a number.

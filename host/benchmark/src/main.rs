@@ -3,9 +3,9 @@
 //! is compared with the reference's.
 
 mod outside;
-mod timing;
 
-use timing::best;
+use benchmark::picture;
+use benchmark::timing::best;
 
 const SIDES: [usize; 3] = [512, 2048, 4096];
 const DEPTH: usize = 8;
@@ -40,23 +40,6 @@ fn row(name: String, side: usize, times: [f64; 3], outside: Outside) -> Row {
         reference,
         outside,
     }
-}
-
-/// A slope with edges and some noise, as a panel has.
-fn picture(side: usize) -> Vec<u16> {
-    let mut noise: u64 = 1;
-    let mut samples = Vec::with_capacity(side * side);
-    for y in 0..side {
-        for x in 0..side {
-            noise ^= noise << 13;
-            noise ^= noise >> 7;
-            noise ^= noise << 17;
-            let slope = (3 * x + 5 * y) / 64 % 160;
-            let lamp = if (x / 96 + y / 64) % 5 == 0 { 80 } else { 0 };
-            samples.push((slope + lamp + noise as usize % 8) as u16);
-        }
-    }
-    samples
 }
 
 fn accepted(number: u64) {
@@ -172,6 +155,50 @@ fn regions(side: usize) -> [(&'static str, Vec<u32>); 3] {
         ("a tenth", vec![first, first, part, part]),
         ("all", vec![0, 0, side as u32, side as u32]),
     ]
+}
+
+/// Eight rectangles, four in each of two rows, over about a tenth of the picture.
+fn eight(side: usize) -> Vec<u32> {
+    let part = |percent: usize| (side * percent / 100) as u32;
+    let [width, height] = [part(9), part(14)];
+    let place = |i: usize| [part(10 + 23 * (i % 4)), part(20 + 45 * (i / 4))];
+    let rectangle = |i| [place(i)[0], place(i)[1], width, height];
+    (0..8).flat_map(rectangle).collect()
+}
+
+fn mask_times(kernel: usize, side: usize, levels: usize, region: &[u8]) -> [f64; 3] {
+    let [mut copied, mut mask, mut expected] = [0, 0, 0].map(|m| vec![m; side * side]);
+    let times = best([
+        &mut || {
+            copied.copy_from_slice(region);
+            std::hint::black_box(&mut copied);
+        },
+        &mut || {
+            accepted(bindings::mask(
+                kernel, levels, side, side, region, &mut mask,
+            ))
+        },
+        &mut || {
+            accepted(reference::mask(
+                kernel,
+                levels,
+                side,
+                side,
+                region,
+                &mut expected,
+            ))
+        },
+    ]);
+    assert!(mask == expected, "mask: library and reference differ");
+    times
+}
+
+fn mask_row(kernel: usize, side: usize, levels: usize) -> Row {
+    let mut region = vec![0; side * side];
+    accepted(bindings::region(&eight(side), side, side, &mut region));
+    let name = format!("{} | {levels}", KERNELS[kernel]);
+    let times = mask_times(kernel, side, levels, &region);
+    row(name, side, times, Outside::None)
 }
 
 const STREAM_KERNEL: usize = 2;
@@ -356,7 +383,7 @@ fn print_growth(tables: &[(&str, &[Row])]) {
 }
 
 fn main() {
-    let (mut there, mut back) = (Vec::new(), Vec::new());
+    let (mut there, mut back, mut masks) = (Vec::new(), Vec::new(), Vec::new());
     let (mut written, mut read) = (Vec::new(), Vec::new());
     for side in SIDES {
         let samples = picture(side);
@@ -365,6 +392,7 @@ fn main() {
                 let [a, b] = transform_rows(kernel, side, levels, &samples);
                 there.push(a);
                 back.push(b);
+                masks.push(mask_row(kernel, side, levels));
             }
         }
         for (share, numbers) in regions(side) {
@@ -375,11 +403,13 @@ fn main() {
     }
     print_table("Transform", "kernel | levels", &there, true);
     print_table("Undo", "kernel | levels", &back, true);
+    print_table("Mask", "kernel | levels", &masks, false);
     print_table("Write", "region", &written, false);
     print_table("Read", "region", &read, false);
     print_growth(&[
         ("transform", &there),
         ("undo", &back),
+        ("mask", &masks),
         ("write", &written),
         ("read", &read),
     ]);

@@ -6,7 +6,7 @@ use std::io::{Read, Write};
 use std::process::{Command, Stdio};
 use std::thread;
 
-use crate::timing;
+use benchmark::timing;
 
 /// Best times of transform and undoing, and the coefficients.
 pub struct Outside {

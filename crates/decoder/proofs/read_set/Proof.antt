@@ -14,7 +14,7 @@ use Rattle.refusal.proofs.Passed.{multiples, area}
 use Rattle.header.specs.Fields.{shotOf}
 use Rattle.header.proofs.Parts.{good-long, good-front}
 use Rattle.codestream.specs.Reading.{badPlanes, otherTests, fillingTest}
-use Rattle.decoder.proofs.Tests.{full-length, other-length, many, outside, deep, plane-other, mask-other, filling-only, setting-size}
+use Rattle.decoder.proofs.Tests.{full-length, other-length, many, outside, deep, plane-other, mask-other, filling-only, setting-good}
 use Rattle.decoder.proofs.Answered.{refused-answer, body-refused, body-done, header-is, front-length, rectangles-tested, mask-drawn}
 use Rattle.decoder.proofs.read_set.Statement.{statement}
 use Rattle.decoder.proofs.read_set.Tie as tie
@@ -31,7 +31,7 @@ M s = length (s .args .mask .now)
 
 -- ---- what each passed test tells
 size : (s : tie.Start) → badSizeAt (s .args .levels) (s .args .w) (s .args .h) ≡ false
-size s = setting-size (s .args .kernel) (s .args .levels) (s .args .depth) (s .args .w) (s .args .h) (s .pre .setting)
+size s = setting-good (s .args .kernel) (s .args .levels) (s .args .depth) (s .args .w) (s .args .h) (s .pre .setting) .size
 
 tested : (c : tie.After-bad-rectangles) → let s = shotOf (L (c .before .before .before .before .before .before .before)) in c .bad-rectangles .result ≡ badRectangles (s .width) (s .height) (s .rectangles)
 tested c = c .bad-rectangles .ensures ∙ rectangles-tested (L (c .before .before .before .before .before .before .before)) (c .before .before .before .before .one-byte .ensures .0) (c .before .before .rectangle-numbers .ensures) (c .before .before .before .if1 .left) refl (c .before .before .before .before .before .before .before .pre .width) (c .before .before .before .before .before .before .before .pre .height)
@@ -72,7 +72,7 @@ read-set-spec =
     (λ c. refused-answer Length (c .refused5 .ensures) refl (mask-other (L (c .before .before .before .before .before .before .before .before .before .before .before .before .before)) (N (c .before .before .before .before .before .before .before .before .before .before .before .before .before)) (M (c .before .before .before .before .before .before .before .before .before .before .before .before .before)) (c .before .before .before .before .before .before .before .before .before .before .one-byte .ensures .0) (c .before .before .before .before .before .before .before .before .before .if1 .left) (inside (c .before .before .before .before .before)) (shallow (c .before .before .before)) (plane-full (c .before .before)) (other-length (c .before .before .before .before .before .before .before .before .before .before .before .before .before .pre .width) (c .before .before .before .before .before .before .before .before .before .before .before .before .before .pre .height) (c .before .if5 .taken))))
     (λ c. search needs)
     (λ c. front-length (L (c .before .before .before .before .before .before .before .before .before .before .before .before .before)) (c .before .before .before .before .before .before .before .before .before .before .one-byte .ensures .0) (c .before .before .before .before .before .before .before .before .rectangle-numbers .ensures) (c .before .before .before .before .before .before .before .before .before .if1 .left) refl)
-    (λ c κs. record { size = size (c .before .before .before .before .before .before .before .before .before .before .before .before .before .before); inside = sym (c .before .before .before .before .before .before .before .bad-rectangles .ensures) ∙ c .before .before .before .before .before .before .if2 .left; full = c .before .before .if5 .left })
+    (λ c κs. let s = c .before .before .before .before .before .before .before .before .before .before .before .before .before .before in record { levels = setting-good (s .args .kernel) (s .args .levels) (s .args .depth) (s .args .w) (s .args .h) (s .pre .setting) .levels .0; size = size s; inside = sym (c .before .before .before .before .before .before .before .bad-rectangles .ensures) ∙ c .before .before .before .before .before .before .if2 .left; full = c .before .before .if5 .left })
     (λ c κs. let p = c .before .before .before .before .before .before .before .before .before .before .before .before .before .before .before .before .before .before .before .pre in
     record {
       header = p .header;

@@ -30,6 +30,7 @@ write-set-spec =
     (λ c. let z = c .before .before .before .before .before .before .before .before .before .before .before .args .plane .now in let h = bad-magnitude z ∙ le-leb 4194304 (largest z) (omega (arith, c .before .scan .ensures .0)) in
     refused Magnitude refl (search ordered depth 20 fits 3000))
     (λ c κs. let z = c .before .before .before .before .before .before .before .before .before .before .before .before in record {
+      levels = setting-passed (z .args .kernel) (z .args .levels) (z .args .depth) (z .args .w) (z .args .h) (z .pre .1) .levels .0;
       size = setting-passed (z .args .kernel) (z .args .levels) (z .args .depth) (z .args .w) (z .args .h) (z .pre .1) .size;
       inside = sym (c .before .before .before .before .before .before .bad-rectangles .ensures) ∙ c .before .before .before .before .before .if2 .left;
       full = c .before .before .before .if4 .left;

@@ -1,21 +1,19 @@
--- `lifting::back_five_three` takes a strip back by kernel 3. Assumes nothing.
-use borrow.Author.Needs.{needs}
-use Prim.Native.Nat.{_+_, _^_}
+-- `lifting::back_five_three` takes lines back by kernel 3. Assumes nothing.
 use mathlib.Core.Bool.{true, false}
+use native.Mathlib.Omega.{arith}
+use borrow.Author.Needs.{needs}
 use Rattle.runs.specs.declared.Step.the-variants.{High, Low}
-use mathlib.Core.Path.{refl}
-use Rattle.lifting.proofs.Strips.{strips-swap, strips-as, small-lanes}
-use Rattle.lifting.proofs.Transforms.{lift-fit, lift-lanes, back-five-three}
+use Rattle.lifting.proofs.Rows.{parts-swap, parts-as, bounded-more}
+use Rattle.lifting.proofs.Lifts.{bounded-other}
+use Rattle.lifting.proofs.Stages.{lift-fit, lift-bounded, back-five-three}
 use Rattle.lifting.proofs.back_five_three.Statement.{statement}
 use Rattle.lifting.proofs.back_five_three.Tie as tie
 
 pub back-five-three-spec : {M : Type 1} → statement M
 back-five-three-spec =
     tie.close (tie.spec
-    (λ c κs. let s = c .before .before in let a = s .args in
-    (s .pre .0, lift-fit Low false (a .m) (a .lanes) (2 ^ 30) (2 ^ 24) (a .low .now) (a .high .now) (small-lanes (s .pre .1 .lows)) (small-lanes (s .pre .1 .highs)) tt))
-    (λ c κs. let s = c .before .before .before .before .before .before in let a = s .args in let f = c .before .before .before .lift .ensures in
-    (strips-swap (strips-as (s .pre .0) (f .rows .size) refl), lift-fit High true (a .m) (a .lanes) (2 ^ 24) (2 ^ 30 + (2 ^ 24 + 1)) (a .high .now) _ (small-lanes (s .pre .1 .highs)) (lift-lanes Low false (a .m) (a .lanes) (2 ^ 30) (2 ^ 24) (a .low .now) (a .high .now) (small-lanes (s .pre .1 .lows)) (small-lanes (s .pre .1 .highs)) f) tt))
+    (λ c κs. let s = c .before in let x = s .pre .1 .0 in let y = s .pre .1 .1 in (s .pre .0, (bounded-more y (omega arith), lift-fit Low false x y tt)))
+    (λ c κs. let s = c .before .before .before .before in let x = s .pre .1 .0 in let y = s .pre .1 .1 in let f = c .before .before .lift .ensures in let d = lift-bounded Low false x y f in
+    (parts-swap (parts-as (s .pre .0) (f .rows .size)), (bounded-more d (omega arith), lift-fit High true (bounded-other (s .pre .0) (omega arith) f y) d tt)))
     (λ c. search needs)
-    (λ c. search needs)
-    (λ c. let a = c .before .before .before .before .before .before .before .before .args in back-five-three (a .m) (a .lanes) (a .low .now) (a .high .now) _ _ (c .before .before .before .before .before .lift .ensures) (c .before .lift2 .ensures)))
+    (λ c. back-five-three (c .before .before .before .before .before .before .pre .0) (c .before .before .before .before .lift .ensures) (c .before .lift2 .ensures)))

@@ -1,21 +1,18 @@
--- `lifting::back_pairs` takes a strip back by kernel 1 or 2. Assumes nothing.
-use borrow.Author.Needs.{needs}
+-- `lifting::back_pairs` takes lines back by kernel 1 or 2. Assumes nothing.
 use mathlib.Core.Bool.{true}
-use Rattle.lifting.proofs.Strips.{strips-swap, small-lanes, lanes-cell}
-use Prim.Native.Nat.{_+_, _^_}
-use Rattle.lifting.proofs.Transforms.{join-fits, lift-fit, lift-lanes, back-pairs}
+use native.Mathlib.Omega.{arith}
+use borrow.Author.Needs.{needs}
+use Rattle.lifting.proofs.Rows.{parts-swap, parts-as, bounded-more}
+use Rattle.lifting.proofs.Lifts.{bounded-other}
+use Rattle.lifting.proofs.Stages.{lift-fit, lift-bounded, join-able, back-pairs}
 use Rattle.lifting.proofs.back_pairs.Statement.{statement}
 use Rattle.lifting.proofs.back_pairs.Tie as tie
 
 pub back-pairs-spec : {M : Type 1} → statement M
 back-pairs-spec =
     tie.close (tie.spec
-    (λ c κs. let s = c .before .before in let a = s .args in
-    (strips-swap (s .pre .0), lift-fit (a .s) true (a .m) (a .lanes) (2 ^ 24) (2 ^ 30) (a .high .now) (a .low .now) (small-lanes (s .pre .1 .highs)) (small-lanes (s .pre .1 .lows)) tt))
+    (λ c κs. let s = c .before in let x = s .pre .1 .1 .0 in let y = s .pre .1 .1 .1 in (parts-swap (s .pre .0), (bounded-more x (s .pre .1 .0), lift-fit (s .args .s) true y x tt)))
+    (λ c κs. let s = c .before .before .before .before in let x = s .pre .1 .1 .0 in let y = s .pre .1 .1 .1 in let f = c .before .before .lift .ensures in
+    (parts-as (s .pre .0) (f .rows .size), join-able (bounded-other (parts-swap (s .pre .0)) (omega arith) f x) (lift-bounded (s .args .s) true y x f) tt))
     (λ c. search needs)
-    (λ c κs. let s = c .before .before .before .before .before .before in let a = s .args in let f = c .before .before .before .lift .ensures in
-    let d = lift-lanes (a .s) true (a .m) (a .lanes) (2 ^ 24) (2 ^ 30) (a .high .now) (a .low .now) (small-lanes (s .pre .1 .highs)) (small-lanes (s .pre .1 .lows)) f in
-    ((s .pre .0 .evens, rw (f .rows .size) (s .pre .0 .odds)), join-fits (2 ^ 24 + (2 ^ 30 + 1)) _ (a .low .now) (c .before .before .before .lift .last .1 .0) tt (s .pre .1 .lows .each) (lanes-cell d)))
-    (λ c. search needs)
-    (λ c. search needs)
-    (λ c. let a = c .before .before .before .before .before .before .before .before .before .args in let w = c .before .before .join-pairs .ensures in back-pairs (a .s) (a .m) (a .lanes) (a .low .now) (a .high .now) _ _ _ (c .before .before .before .before .before .before .lift .ensures) (w .0) (w .1)))
+    (λ c. back-pairs (c .before .before .before .before .before .before .pre .0) (c .before .before .before .before .lift .ensures) (c .before .pairs .ensures)))

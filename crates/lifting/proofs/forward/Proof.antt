@@ -1,6 +1,7 @@
--- `lifting::forward` transforms a strip by any kernel. Assumes nothing.
+-- `lifting::forward` transforms lines by any kernel. Assumes nothing.
+use native.Mathlib.Omega.{arith}
 use borrow.Author.Needs.{needs}
-use Rattle.lifting.proofs.Transforms.{forward-a, forward-tt}
+use Rattle.lifting.proofs.Stages.{split-able, forward-s, forward-a, forward-tt}
 use Rattle.lifting.proofs.forward.Statement.{statement}
 use Rattle.lifting.proofs.forward.Tie as tie
 
@@ -8,22 +9,18 @@ pub forward-spec : {M : Type 1} → statement M
 forward-spec =
     tie.close (tie.spec
     (λ c. search needs)
-    (λ c κs. search needs)
+    (λ c κs. let s = c .before .before .before in (s .pre .0, split-able (s .pre .1 .0) (s .pre .1 .1) (omega arith) (omega arith)))
+    (λ c. search needs)
+    (λ c κs. let s = c .before .before .before in (s .pre .0, (omega arith, (s .pre .1 .0, s .pre .1 .1))))
+    (λ c. search needs)
+    (λ c κs. let s = c .before .before .before in (s .pre .0, (omega arith, (s .pre .1 .0, s .pre .1 .1))))
     (λ c. search needs)
     (λ c κs. search needs)
     (λ c. search needs)
-    (λ c κs. search needs)
+    (λ c. rw (c .before .before .before .enum-told .given .1) (forward-s (c .before .pairs .ensures)))
     (λ c. search needs)
-    (λ c κs. search needs)
+    (λ c. rw (c .before .before .before .enum-told2 .given .1) (forward-a (c .before .forward-pairs .ensures)))
     (λ c. search needs)
+    (λ c. rw (c .before .before .before .enum-told3 .given .1) (forward-tt (c .before .forward-pairs2 .ensures)))
     (λ c. search needs)
-    (λ c. rw (c .before .before .before .before .before .enum-told .given .1) (c .before .before .forward-s .ensures))
-    (λ c. search needs)
-    (λ c. search needs)
-    (λ c. rw (c .before .before .before .before .before .enum-told2 .given .1) (forward-a _ _ _ _ _ _ (c .before .before .forward-pairs .ensures)))
-    (λ c. search needs)
-    (λ c. search needs)
-    (λ c. rw (c .before .before .before .before .before .enum-told3 .given .1) (forward-tt _ _ _ _ _ _ (c .before .before .forward-pairs2 .ensures)))
-    (λ c. search needs)
-    (λ c. search needs)
-    (λ c. rw (c .before .before .before .before .before .enum-told4 .given .1) (c .before .before .forward-five-three .ensures)))
+    (λ c. rw (c .before .before .before .enum-told4 .given .1) (c .before .forward-five-three .ensures)))

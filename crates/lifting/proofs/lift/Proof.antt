@@ -1,50 +1,65 @@
--- `lifting::lift` moves all rows by the amounts of a step: the rows near both ends one at a time, those between as one run. Assumes nothing.
+-- `lifting::lift` moves all rows by the amounts of a step: one at a time, or where they lie end to end those between the borders as one run.
+-- Assumes nothing.
+use mathlib.Core.Path.{_≡_}
+use Prim.Native.Nat.{_+_, _-_, _≤_}
 use native.Mathlib.Omega.{arith}
 use borrow.Author.Needs.{needs}
-use mathlib.Core.Path.{_≡_}
-use Prim.Native.Nat.{_+_, _-_}
 use Rattle.lifting.specs.Steps.{Lifted}
-use Rattle.lifting.proofs.Lifts.{reach-two, straight-between, lift-join, fit-more, fit-part, strips-more}
+use Rattle.lifting.proofs.Rows.{all-rows}
+use Rattle.lifting.proofs.Lifts.{look-two, straight-between, parts-more, bounded-other, lift-join, fit-more, fit-part}
 use Rattle.lifting.proofs.lift.Statement.{statement}
 use Rattle.lifting.proofs.lift.Tie as tie
 
 -- all but the last rows
-most : (c : tie.After-lift-rows) →
-    let s = c .before .before .before .before .before .before .before in let a = s .args in let r = c .before .before .before .before .before .before .reach-of .result in
-    Lifted (a .s) (a .add) (a .m) (a .lanes) 0 (a .m - r) (a .t .now) (a .x .now) (c .lift-rows .last .1 .0)
+most : (c : tie.After-lift-rows) → let s = c .before .before .before .before .before .before .before .before .before in let a = s .args in let q = c .before .before .before .before .before .before .before .look-ahead .result in
+    Lifted (a .s) (a .add) (a .m) (a .lanes) 0 (a .m - q) (a .to) (a .from) (a .step) (a .l .now) (c .lift-rows .last .1 .0)
 most c =
-    let s = c .before .before .before .before .before .before .before in
-    let r = c .before .before .before .before .before .before .reach-of .result in
-    let f = lift-join (c .before .before .before .lift-edge2 .ensures) (r + (s .args .m - r - r)) (omega arith) (omega arith) (c .lift-rows .ensures) in
-    let e : r + (s .args .m - r - r) ≡ s .args .m - r = omega arith in
+    let s = c .before .before .before .before .before .before .before .before .before in let a = s .args in let p = c .before .before .before .before .before .before .before .before .look-back .result in let q = c .before .before .before .before .before .before .before .look-ahead .result in
+    let f = lift-join (s .pre .0) (omega arith) (c .before .before .before .lift-each3 .ensures) (p + (a .m - p - q)) (omega arith) (omega arith) (omega arith) (c .lift-rows .ensures) in
+    let e : p + (a .m - p - q) ≡ a .m - q = omega arith in
     rw e at f
 
 pub lift-spec : {M : Type 1} → statement M
 lift-spec =
     tie.close (tie.spec
     (λ c κs. search needs)
-    (λ c. omega (arith, c .reach-of .ensures, reach-two (c .before .args .s)))
+    (λ c κs. search needs)
+    (λ c. omega (arith, c .before .look-back .ensures, c .look-ahead .ensures, look-two (c .before .before .args .s)))
     (λ c κs. search needs)
     (λ c. search needs)
     (λ c. search needs)
-    (λ c κs. let p = c .before .before .before .pre in ((omega arith, omega arith), (p .0, fit-part 0 _ (p .1) (omega arith) (omega arith))))
+    (λ c κs. search needs)
     (λ c. search needs)
     (λ c. search needs)
-    (λ c κs.
-    let s = c .before .before .before .before .before .before in let f = c .before .before .lift-edge2 .ensures in
-    let r = c .before .before .before .before .before .reach-of .result in let d = s .args .m - r - r in (
+    (λ c κs. let s = c .before .before .before .before .before in ((omega arith, omega arith), (s .pre .0, (s .pre .1 .0, fit-part 0 _ (s .pre .1 .1) (omega arith) (omega arith)))))
+    (λ c. omega arith)
+    (λ c. omega arith)
+    (λ c κs. let s = c .before .before .before .before .before .before .before .before in let a = s .args in let g = s .pre .0 in let f = c .before .before .lift-each3 .ensures in let p = c .before .before .before .before .before .before .before .look-back .result in let q = c .before .before .before .before .before .before .look-ahead .result in let top : p ≤ a .m = omega arith in (
       (omega arith, omega arith),
       (
-        strips-more f (s .pre .0),
+        parts-more g top f,
         (
-          straight-between (s .args .s) (s .args .m) r d (omega (arith, c .before .before .before .before .before .reach-of .ensures)) (omega (arith, c .before .before .before .before .before .reach-of .ensures)),
-          fit-more f r (r + d) (omega arith) (fit-part r (r + d) (s .pre .1) (omega arith) (omega arith)),
+          all-rows (a .step) (a .lanes) (a .m - p - q) (omega arith),
+          (
+            straight-between (a .s) (a .m) p (a .m - p - q) (omega (arith, c .before .before .before .before .before .before .before .look-back .ensures)) (omega (arith, c .before .before .before .before .before .before .look-ahead .ensures)),
+            (
+              bounded-other g top f (s .pre .1 .0),
+              fit-more g top f p _ (omega arith) (omega arith) (fit-part p _ (s .pre .1 .1) (omega arith) (omega arith)),
+            ),
+          ),
+        ),
+      ),
+    ))
+    (λ c. omega arith)
+    (λ c κs. let s = c .before .before .before .before .before .before .before .before .before .before .before in let a = s .args in let g = s .pre .0 in let f = most (c .before .before) in let q = c .before .before .before .before .before .before .before .before .before .look-ahead .result in let top : a .m - q ≤ a .m = omega arith in (
+      (omega arith, omega arith),
+      (
+        parts-more g top f,
+        (
+          bounded-other g top f (s .pre .1 .0),
+          fit-more g top f (a .m - q) (a .m) (omega arith) (omega arith) (fit-part (a .m - q) (a .m) (s .pre .1 .1) (omega arith) (omega arith)),
         ),
       ),
     ))
     (λ c. search needs)
-    (λ c κs.
-    let s = c .before .before .before .before .before .before .before .before .before in let f = most (c .before .before) in
-    ((omega arith, omega arith), (strips-more f (s .pre .0), fit-more f _ (s .args .m) (omega arith) (fit-part _ (s .args .m) (s .pre .1) (omega arith) (omega arith)))))
-    (λ c. search needs)
-    (λ c. lift-join (most (c .before .before .before .before)) _ (omega arith) (omega arith) (c .before .lift-edge3 .ensures)))
+    (λ c. let s = c .before .before .before .before .before .before .before .before .before .before .before .before .before in lift-join (s .pre .0) (omega arith) (most (c .before .before .before .before)) _ (omega arith) (omega arith) (omega arith) (c .before .lift-each4 .ensures)))

@@ -1,17 +1,9 @@
--- `lifting::taps` gives where row n and the rows around it begin. Assumes nothing.
+-- `lifting::taps` tells where a row begins, and the rows that it is moved from. Assumes nothing.
 use native.Mathlib.Omega.{arith}
-use mathlib.Core.Path.{_≡_}
-use Prim.Native.Nat.{ℕ, _<_, _≤_}
 use borrow.Author.Needs.{needs}
-use Rattle.line.specs.Transform as line
-use Rattle.line.proofs.Border.{inside-in}
-use Rattle.lifting.proofs.Lifts.{place-fits, reach-two}
+use Rattle.lifting.proofs.Lifts.{look-two, taps-same}
 use Rattle.lifting.proofs.taps.Statement.{statement}
 use Rattle.lifting.proofs.taps.Tie as tie
-
--- a row that the border rule gives
-row : {m r : ℕ} (u d : ℕ) → r ≡ line.inside m u d → 0 < m → r ≤ m
-row {m} u d e h = rw e (let l = inside-in m u d h in omega arith)
 
 pub taps-spec : {M : Type 1} → statement M
 taps-spec =
@@ -19,13 +11,14 @@ taps-spec =
     (λ c κs. search needs)
     (λ c κs. search needs)
     (λ c κs. search needs)
+    (λ c κs. search needs)
+    (λ c κs. search needs)
+    (λ c κs. search needs)
+    (λ c κs. search needs)
+    (λ c κs. search needs)
     (λ c. search needs)
     (λ c κs. search needs)
-    (λ c. omega (arith, c .before .before .before .reach-of .ensures, reach-two (c .before .before .before .before .args .s), c .before .before .before .before .pre))
+    (λ c. omega (arith, look-two (c .before .before .before .before .before .before .before .before .before .args .s), c .before .before .before .before .before .before .before .look-ahead .ensures, c .before .before .before .before .before .before .before .before .before .pre))
     (λ c κs. search needs)
-    (λ c. let a = c .before .before .before .before .before in place-fits (a .args .m) (a .args .lanes) _ (omega (arith, a .pre .0)) (a .pre .2))
-    (λ c. let a = c .before .before .before .before .before in place-fits (a .args .m) (a .args .lanes) _ (row _ _ (c .before .before .before .inside .ensures) (omega (arith, a .pre .0))) (a .pre .2))
-    (λ c. let a = c .before .before .before .before .before in place-fits (a .args .m) (a .args .lanes) _ (row _ _ (c .before .before .inside2 .ensures) (omega (arith, a .pre .0))) (a .pre .2))
-    (λ c. let a = c .before .before .before .before .before in place-fits (a .args .m) (a .args .lanes) _ (row _ _ (c .before .inside3 .ensures) (omega (arith, a .pre .0))) (a .pre .2))
-    (λ c. let a = c .before .before .before .before .before in place-fits (a .args .m) (a .args .lanes) _ (row _ _ (c .inside4 .ensures) (omega (arith, a .pre .0))) (a .pre .2))
-    (λ c. rw (c .before .before .before .inside .ensures, c .before .before .inside2 .ensures, c .before .inside3 .ensures, c .inside4 .ensures, c .before .before .before .before .reach-of .ensures)))
+    (λ c. let s = c .before .before .before .before .before .before .before .before .before .before in let a = s .args in taps-same (a .s) (a .m) (a .to) (a .from) (a .step) (a .n) (s .pre .0 .0) (c .before .before .before .before .before .before .before .before .before .look-back .ensures) (c .before .before .before .before .before .before .before .before .look-ahead .ensures) (c .before .before .before .before .before .before .before .least .ensures) (c .before .before .before .before .before .before .least2 .ensures)
+    (c .before .before .before .before .before .row-near .ensures) (c .before .before .before .before .row-near2 .ensures) (c .before .before .before .row-near3 .ensures) (c .before .before .row-near4 .ensures) (c .before .row-near5 .ensures) (c .row-near6 .ensures)))

@@ -8,17 +8,17 @@ use Rattle.line_mask.proofs.join_marks.Statement.{statement}
 use Rattle.line_mask.proofs.join_marks.Tie as tie
 
 abbrev Inv-loop : tie.InvT-loop
-Inv-loop t₀ x at from n k₀ t k = (k ≤ n) × Joined at from k t₀ x t
+Inv-loop marks₀ at from n k₀ marks k = (k ≤ n) × Joined at from k marks₀ marks
 
 abbrev μ-loop : tie.MeasureT-loop
-μ-loop t₀ x at from n k₀ t k = n - k
+μ-loop marks₀ at from n k₀ marks k = n - k
 
 pub join-marks-spec : {M : Type 1} → statement M
 join-marks-spec =
     tie.close (tie.spec
     Inv-loop
     μ-loop
-    (λ c. (omega arith, joined-none _ _ _ _))
+    (λ c. (omega arith, joined-none _ _ _))
     (λ c. omega arith)
     (λ c. omega arith)
     (λ c. omega arith)
@@ -27,6 +27,6 @@ join-marks-spec =
     (λ c. omega arith)
     (λ c. omega arith)
     (λ c. omega arith)
-    (λ c. let l = c .before .before .before .loop in (omega arith, joined-more _ _ _ _ (l .k) (l .t) (omega arith) (l .inv .1)))
+    (λ c. let l = c .before .before .before .loop in let s = c .before .before .before .before in (omega arith, joined-more _ _ _ _ (l .k) (l .marks) (omega arith) (s .pre .1) (omega arith) (l .inv .1)))
     (λ c. c .before .loop .inv .1 .size)
     (λ c. let e : c .before .loop .k ≡ c .before .before .args .n = omega arith in rw e at (c .before .loop .inv .1)))

@@ -1,4 +1,4 @@
--- `line_mask::mask` makes the masks of a strip's lines, by any kernel. Assumes nothing.
+-- `line_mask::mask` makes the masks of lines side by side, by any kernel. Assumes nothing.
 use borrow.Author.Needs.{needs}
 use mathlib.Core.Path.{_≡_, refl}
 use mathlib.Core.Bool.{Bool}
@@ -35,14 +35,7 @@ mask-spec =
     (λ c κs. search needs)
     (λ c κs. search needs)
     (λ c. search needs)
+    (λ c. rw (c .before .before .before .before .enum-told .given .1) (c .before .before .mask-five-three .ensures))
     (λ c. search needs)
-    (λ c. rw (c .before .before .before .before .before .before .before .enum-told .given .1) (c .before .before .before .before .mask-five-three .ensures))
-    (λ c. search needs)
-    (λ c. search needs)
-    (λ c.
-    let a = c .before .before .before .before .before .before .before .before .before .before .before .args in
-    let k = c .before .before .before .before .before .before .before .before .match .keys2 in
-    let p = c .before .before .before .before .mask-pairs .ensures in record {
-      lows = marks-as _ _ (rw (c .before .before .before .before .before .before .before .reach .ensures) at (p .0)) (λ n j h i. pair-kernel (a .m) _ n (a .kernel) k .0);
-      highs = marks-as _ _ (p .1) (λ n j h i. pair-kernel (a .m) _ n (a .kernel) k .1);
-    }))
+    (λ c. let g = c .before .before .before .before .before .before .before .args in let k = c .before .before .before .before .before .match .keys2 in
+    marks-as (rw (c .before .before .before .before .reach .ensures) at (c .before .before .mask-pairs .ensures)) (λ n j h. pair-kernel (g .m) _ n (g .kernel) k)))

@@ -1,28 +1,26 @@
 -- `line_mask::mask_pairs` makes the lows' and highs' marks of kernels 0 to 2. The loop's invariant: the lows have the pairs within the reach k. Assumes nothing.
 use borrow.Author.Needs.{needs}
-use mathlib.Core.Path.{_≡_, _∙_}
+use mathlib.Core.Path.{_≡_, refl, _∙_}
 use mathlib.Core.Logic.{⊎-elim}
-use Prim.Native.Nat.{_-_, _≤_}
-use native.Mathlib.Nat.{lt-of-le-of-lt, mul-le-mul-right}
+use mathlib.Core.List.{List}
+use Prim.Native.Nat.{ℕ, _+_, _*_, _-_, _<_, _≤_}
+use native.Mathlib.Nat.{mul-le-mul-right}
 use native.Mathlib.Omega.{arith}
-use Rattle.line_mask.specs.Marks.{lane, Marks}
-use Rattle.line_mask.proofs.Reach.{within}
-use Rattle.line_mask.proofs.Masks.{pair-highs, reach-none, reach-more, reach-past, reach-lows}
+use lib.ListN.{length}
+use Rattle.line_mask.proofs.Masks.{Reached, reach-none, reach-more, reach-past}
 use Rattle.line_mask.proofs.mask_pairs.Statement.{statement}
 use Rattle.line_mask.proofs.mask_pairs.Tie as tie
 
 abbrev Inv-loop : tie.InvT-loop
-Inv-loop reach even₀ odd m lanes count k₀ even k = Marks (λ n j. within k m (lane lanes odd j) n) lanes m even₀ even × (k ≤ reach)
+Inv-loop reach marks₀ a b m lanes count k₀ marks k = ((l : List ℕ) → Reached 0 a b lanes m l marks₀ → Reached k a b lanes m l marks) × (length marks ≡ length marks₀) × (k ≤ reach)
 
 abbrev μ-loop : tie.MeasureT-loop
-μ-loop reach even₀ odd m lanes count k₀ even k = reach - k
+μ-loop reach marks₀ a b m lanes count k₀ marks k = reach - k
 
--- d rows are within the strip
-sub-join-marks : tie.Need-sub-join-marks Inv-loop μ-loop
-sub-join-marks c = mul-le-mul-right _ (omega arith)
-
-sub-join-marks-2 : tie.Need-sub-join-marks-2 Inv-loop μ-loop
-sub-join-marks-2 c = mul-le-mul-right _ (omega arith)
+-- d rows are in each part
+rows : (s : tie.Start Inv-loop μ-loop) (d : ℕ) → let g = s .args in d < g .m
+    → (d * g .lanes ≤ g .m * g .lanes) × (g .a + g .m * g .lanes ≤ g .b) × (g .b + g .m * g .lanes ≤ length (g .marks .now))
+rows s d h = (mul-le-mul-right _ (omega arith), s .pre .apart, s .pre .room)
 
 pub mask-pairs-spec : {M : Type 1} → statement M
 mask-pairs-spec =
@@ -32,34 +30,25 @@ mask-pairs-spec =
     (λ c. search needs)
     (λ c κs. search needs)
     (λ c κs. search needs)
-    (λ c.
-    let s = c .before .before .before .before .before .before .before .before .before .before .before .before in
-    (reach-none _ _ _ _ (s .pre .1 .0) (s .pre .1 .1) (c .before .before .before .before .before .before .before .join-marks .ensures) (c .before .before .join-marks2 .ensures), omega arith))
+    (λ c. (λ l p. p, refl, omega arith))
     (λ c. omega arith)
-    (λ c. let s = c .before .before .before .before .before .before .before .before .before .before .before .before .before .before .before in record { fits = lt-of-le-of-lt (mul-le-mul-right {n = s .args .m} _ (omega arith)) (omega arith) })
-    sub-join-marks
-    (λ c κs. omega (arith, sub-join-marks c))
-    sub-join-marks-2
-    (λ c κs. omega (arith, sub-join-marks-2 c))
+    (λ c. let r = rows (c .before .before .before .before .before .before .before .before .before .before .before .before) _ (c .if1 .taken) in omega arith)
+    (λ c. let r = rows (c .before .before .before .before .before .before .before .before .before .before .before .before .before) _ (c .before .if1 .taken) in omega arith)
+    (λ c. let r = rows (c .before .before .before .before .before .before .before .before .before .before .before .before .before) _ (c .before .if1 .taken) in omega arith)
+    (λ c κs. let r = rows (c .before .before .before .before .before .before .before .before .before .before .before .before .before) _ (c .before .if1 .taken) in (omega arith, λ i k h g e. omega arith))
+    (λ c. let r = rows (c .before .before .before .before .before .before .before .before .before .before .before .before .before .before .before .before .before) _ (c .before .before .before .before .before .if1 .taken) in omega arith)
+    (λ c. let r = rows (c .before .before .before .before .before .before .before .before .before .before .before .before .before .before .before .before .before) _ (c .before .before .before .before .before .if1 .taken) in omega arith)
+    (λ c κs. let r = rows (c .before .before .before .before .before .before .before .before .before .before .before .before .before .before .before .before .before) _ (c .before .before .before .before .before .if1 .taken) in (omega arith, λ i k h g e. omega arith))
     (λ c. omega arith)
     (λ c. omega arith)
-    (λ c.
-    let l = c .before .before .loop in
-    let s = c .before .before .before .before .before .before .before .before .before .before .before .before .before .before .before in
-    let p = c .before .before .before .before .before .before .before .before .before .before .join-marks .ensures in
-    let q = c .before .before .before .before .before .join-marks2 .ensures in (
-      ⊎-elim
-          (λ w. rw (w .11) (reach-more _ _ _ _ (s .pre .1 .0) (s .pre .1 .1) p q (l .k) (l .inv .0) (w .3 .ensures) (w .8 .ensures) (w .0 .taken)))
-          (λ w. rw (w .1) (reach-past _ _ _ _ (s .pre .1 .0) (s .pre .1 .1) p q (l .k) (l .inv .0) (w .0 .left)))
+    (λ c. let l = c .before .before .loop in let s = c .before .before .before .before .before .before .before .before .before .before .before .before in (
+      λ l₀ p. ⊎-elim
+          (λ w. rw (w .9) (reach-more (l .k) (l .inv .0 l₀ p) (s .pre .apart) (w .2 .ensures) (w .6 .ensures) (w .0 .taken)))
+          (λ w. rw (w .1) (reach-past (l .k) (l .inv .0 l₀ p) (w .0 .left)))
           (c .if1 .came),
+      ⊎-elim (λ w. rw (w .9) (w .6 .ensures .size ∙ w .2 .ensures .size ∙ l .inv .1)) (λ w. rw (w .1) (l .inv .1)) (c .if1 .came),
       omega arith,
     ))
-    (λ c. c .before .loop .inv .0 .size ∙ c .before .before .before .before .join-marks2 .ensures .size)
-    (λ c. c .before .before .before .before .before .before .before .before .before .join-marks .ensures .size)
-    (λ c.
-    let l = c .before .loop in
-    let s = c .before .before .before .before .before .before .before .before .before .before .before .before .before .before in
-    let p = c .before .before .before .before .before .before .before .before .before .join-marks .ensures in
-    let q = c .before .before .before .before .join-marks2 .ensures in
-    let e : l .k ≡ s .args .reach = omega arith in
-    (rw e at (reach-lows _ _ _ _ (s .pre .1 .0) (s .pre .1 .1) p q (l .k) (l .inv .0)), pair-highs _ _ _ _ (s .pre .1 .0) (s .pre .1 .1) p q)))
+    (λ c. c .before .loop .inv .1 ∙ c .before .before .before .before .join-marks2 .ensures .size ∙ c .before .before .before .before .before .before .before .before .join-marks .ensures .size)
+    (λ c. let l = c .before .loop in let e : l .k ≡ c .before .before .before .before .before .before .before .before .before .before .before .args .reach = omega arith in let s = c .before .before .before .before .before .before .before .before .before .before .before in
+    rw e at (l .inv .0 _ (reach-none (s .pre) (c .before .before .before .before .before .before .before .before .join-marks .ensures) (c .before .before .before .before .join-marks2 .ensures)))))

@@ -1,34 +1,35 @@
--- `passes::row_pass` transforms the rows of an area, or takes them back. Assumes nothing.
+-- `passes::row_pass` transforms the rows of an area. The loop's invariant: the first y rows are transformed. Assumes nothing.
+use mathlib.Core.Path.{_≡_, ap, _∙_}
+use Prim.Native.Nat.{_*_, _-_, _<_}
 use native.Mathlib.Omega.{arith}
-use mathlib.Core.Path.{_≡_}
-use Prim.Native.Nat.{_-_}
+use lib.Arith.{digits-lt}
 use lib.IntN.{pos}
+use lib.ListN.{length}
+use Rattle.grid.specs.Picture.{rowPass, picture}
 use Rattle.grid.proofs.Running.{RowsPassed, rows-none, rows-more}
-use Rattle.passes.specs.Passes.{lineTransform}
-use Rattle.passes.proofs.Running.{line-local, area-same, row-strips, row-in, row-takes}
+use Rattle.passes.specs.Passes.{lineTransform, Area}
+use Rattle.passes.proofs.Running.{line-local, area-same, row-in, row-half, row-takes}
 use Rattle.passes.proofs.row_pass.Statement.{statement}
 use Rattle.passes.proofs.row_pass.Tie as tie
 
 abbrev Inv-loop : tie.InvT-loop
-Inv-loop kernel undo buf₀ a₀ b₀ stride w h y₀ buf a b y = RowsPassed (pos 0) (lineTransform undo kernel) stride w h y buf₀ a₀ b₀ buf a b
+Inv-loop kernel undo l₀ q₀ stride w h y₀ l q y = RowsPassed (pos 0) (lineTransform undo kernel) stride w h y l₀ q₀ q₀ l q q
 
 abbrev μ-loop : tie.MeasureT-loop
-μ-loop kernel undo buf₀ a₀ b₀ stride w h y₀ buf a b y = h - y
+μ-loop kernel undo l₀ q₀ stride w h y₀ l q y = h - y
 
 pub row-pass-spec : {M : Type 1} → statement M
 row-pass-spec =
     tie.close (tie.spec
     Inv-loop
     μ-loop
-    (λ c. rows-none _ _ _ _ _ _ _ _)
-    (λ c. let z = c .before .before .before .before .before .pre .0 in let y = c .before .before .before .before .loop .y in
-    omega (arith, row-in z y (omega arith) .place 0 0 (omega (arith, z .some-w, z .even-w)) (omega arith)))
-    (λ c κs. let s = c .before .before .before .before .before in let l = c .before .before .before .before .loop in let p = l .inv in let z = area-same (l .buf) (l .a) (l .b) (s .pre .0) (p .same-l) (p .same-a) (p .same-b) in
-    (row-in z (l .y) (omega arith), (row-strips z, row-takes (s .pre .0) p (s .pre .1) (omega arith))))
+    (λ c. let a = c .args in rows-none (pos 0) _ (a .stride) (a .w) (a .h) (a .l .now) (a .q .now) (a .q .now))
+    (λ c. let s = c .before .before .before .before in let z = s .pre .0 in let i = c .before .before .before .loop .inv in omega (arith, z .fits, i .same-l, digits-lt {q = c .before .before .before .loop .y} {m = s .args .h} {r = 0} {c = s .args .stride} (c .before .before .loop-test .taken) (omega (arith, z .wide, z .some-w))))
+    (λ c κs. let s = c .before .before .before .before in let i = c .before .before .before .loop .inv in let z = area-same (s .pre .0) (i .same-l) in
+    (row-half (c .before .before .before .loop .l) z (omega (arith, s .pre .1 .0, i .same-a)), (row-in (c .before .before .before .loop .l) z (c .before .before .before .loop .y) (c .before .before .loop-test .taken), row-takes (s .pre .0) i (s .pre .1 .1) (c .before .before .loop-test .taken))))
     (λ c. omega arith)
     (λ c. omega arith)
-    (λ c. let s = c .before .before .before .before .before .before .before .before .before in let l = c .before .before .before .before .before .before .before .before .loop in let k = c .before .before .before .lines .kept in rows-more (line-local (s .args .undo) (s .args .kernel)) (s .pre .0 .even-w) (s .pre .0 .wide) (l .inv) (omega arith) (c .before .before .before .lines .ensures) (k .1 .1 .1 .0) (k .1 .1 .1 .1 .0))
+    (λ c. let s = c .before .before .before .before .before .before .before in let i = c .before .before .before .before .before .before .loop .inv in rows-more (line-local (s .args .undo) (s .args .kernel)) (s .pre .0 .even-w) (s .pre .0 .wide) i (c .before .before .before .before .before .loop-test .taken) (c .before .before .row .ensures) (c .before .before .row .kept .1 .1 .1 .0) (c .before .before .row .kept .1 .1 .1 .0))
     (λ c. c .before .loop .inv .same-l)
     (λ c. c .before .loop .inv .same-a)
-    (λ c. c .before .loop .inv .same-b)
-    (λ c. let l = c .before .loop in let e : l .y ≡ c .before .before .args .h = omega (arith, l .inv .count) in rw e at (l .inv .passed)))
+    (λ c. let i = c .before .loop .inv in let e : c .before .loop .y ≡ c .before .before .args .h = omega (arith, i .count) in rw e at (i .passed)))

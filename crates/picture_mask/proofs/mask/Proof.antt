@@ -1,15 +1,17 @@
 -- `picture_mask::mask` fills a mask from its region, or refuses. Assumes nothing.
 use mathlib.Core.Path.{_≡_, sym, _∙_}
 use mathlib.Core.Bool.{false}
-use Prim.Native.Nat.{ℕ}
+use Prim.Native.Nat.{_<_}
+use native.Mathlib.Nat.{mul-comm}
 use native.Mathlib.Omega.{arith}
 use borrow.Author.Needs.{needs}
 use lib.Dec.{leb}
 use Rattle.kernel.proofs.Numbers.{known, unknown}
-use Rattle.transfer.proofs.Copies.{front-room, copied-whole}
+use Rattle.refusal.specs.Tests.{badSizeAt}
 use Rattle.refusal.proofs.Ordered.{ordered, refused, done}
 use Rattle.refusal.proofs.Passed.{inside, multiples, area}
-use Rattle.picture_mask.proofs.Entry.{region-binary, mask-of-copy}
+use Rattle.picture_mask.specs.Areas.{Binary}
+use Rattle.picture_mask.proofs.Entry.{region-binary, sides-even, placed-marks, mask-of-placed}
 use Rattle.picture_mask.proofs.mask.Statement.{statement}
 use Rattle.picture_mask.proofs.mask.Tie as tie
 
@@ -17,9 +19,15 @@ use Rattle.picture_mask.proofs.mask.Tie as tie
 few : (c : tie.After-chosen) → leb 4 (c .before .before .before .before .before .args .kernel) ≡ false
 few c = known (c .before .before .before .before .before .args .kernel) _ (sym (c .before .before .new .ensures) ∙ c .chosen .given .1) .0
 
--- the mask's buffer then holds the region
-whole : (c : tie.After-copy) → c .copy .last .1 .0 ≡ c .before .before .before .before .before .before .before .before .before .before .before .before .before .before .before .before .args .region .now
-whole c = copied-whole 0 (c .before .before .before .before .before .before .before .before .before .before .before .before .before .before .before .before .args .region .now) _ (sym (c .before .before .before .before .before .if3 .left)) (c .before .before .before .before .if4 .left ∙ sym (c .before .before .before .before .before .if3 .left)) (c .copy .ensures)
+-- what the passed tests tell
+levels : (c : tie.After-place-arg) → 0 < c .before .before .before .before .before .before .before .before .before .before .before .before .before .before .before .args .levels
+levels c = inside 1 5 (c .before .before .before .before .before .before .before .before .before .before .before .before .before .before .before .args .levels) (sym (c .before .before .before .before .before .before .before .before .bad-levels .ensures) ∙ c .before .before .before .before .before .before .before .if1 .left) .0
+
+size : (c : tie.After-place-arg) → let a = c .before .before .before .before .before .before .before .before .before .before .before .before .before .before .before .args in badSizeAt (a .levels) (a .w) (a .h) ≡ false
+size c = sym (c .before .before .before .before .before .before .bad-size-at .ensures) ∙ c .before .before .before .before .before .if2 .left
+
+binary : (c : tie.After-place-arg) → Binary (c .before .before .before .before .before .before .before .before .before .before .before .before .before .before .before .args .region .now)
+binary c = region-binary _ (sym (c .before .before .bad-mark .ensures) ∙ c .before .if5 .left)
 
 pub mask-spec : {M : Type 1} → statement M
 mask-spec =
@@ -38,16 +46,16 @@ mask-spec =
     (λ c. let h = few (c .before .before .before .before .before .before .before) in refused _ (search ordered depth 20 fits 3000))
     (λ c κs. search needs)
     (λ c. let h = few (c .before .before .before .before .before .before .before .before .before) in refused _ (search ordered depth 20 fits 3000))
+    (λ c κs. let a = c .before .before .before .before .before .before .before .before .before .before .before .before .before .before .before .args in
+    (sides-even (a .levels) (a .w) (a .h) (levels c) (size c), (c .before .before .before .before .if3 .left ∙ mul-comm (a .w) (a .h), c .before .before .before .if4 .left ∙ mul-comm (a .w) (a .h))))
+    (λ c κs. let p = c .before .before .before .before in let a = c .before .before .before .before .before .before .before .before .before .before .before .before .before .before .before .before .before .before .before .args in record {
+      levels = levels p;
+      size = size p;
+      full = c .before .before .before .place .kept .1 .0 ∙ c .before .before .before .before .before .before .before .if4 .left;
+      marks = placed-marks (a .levels) (a .w) (a .h) (a .region .now) _ (levels p) (size p) (binary p) (c .before .before .before .place .ensures);
+    })
     (λ c. search needs)
-    (λ c κs. front-room {A = ℕ} 0 _ _ (omega (arith, c .before .before .before .before .if3 .left)) (omega (arith, c .before .before .before .if4 .left)))
-    (λ c κs. let bound = c .before .before .before .before .before .before .before .before .before in let size = c .before .before .before .before .before .before .before .before .before .before in let told = c .before .before .before .before .before .before in
-    rw (whole (c .before .before .before))
-    (record {
-      size = sym (size .bad-size-at .ensures) ∙ bound .if2 .left;
-      full = c .before .before .before .before .before .before .before .before .if3 .left;
-      marks = region-binary _ (sym (told .bad-mark .ensures) ∙ c .before .before .before .before .before .if5 .left);
-    }))
-    (λ c. search needs)
-    (λ c. let k = c .before .before .before .before .before .before .before .before .before .before .before .before .before .before .before .before .before .chosen in let h = few (c .before .before .before .before .before .before .before .before .before .before .before .before .before .before .before .before .before) in
+    (λ c. let k = c .before .before .before .before .before .before .before .before .before .before .before .before .before .before .before .before .before .chosen in let h = few (c .before .before .before .before .before .before .before .before .before .before .before .before .before .before .before .before .before) in let a = c .before .before .before .before .before .before .before .before .before .before .before .before .before .before .before .before .before .before .before .before .before .before .args in
     done _ (search ordered depth 20 fits 3000)
-    (mask-of-copy (c .before .before .before .before .before .before .before .before .before .before .before .before .before .before .before .before .before .before .before .before .before .before .args .kernel) _ _ _ (k .given .0 .0) _ _ _ _ (sym (k .given .1) ∙ c .before .before .before .before .before .before .before .before .before .before .before .before .before .before .before .before .before .before .before .new .ensures) (whole (c .before .before .before .before .before .before)) (c .before .before .before .before .before .before .before .before .before .before .if4 .left ∙ sym (c .before .before .before .before .before .before .before .before .before .before .before .if3 .left)) (c .before .before .mask-levels .ensures))))
+    (mask-of-placed (a .kernel) (a .levels) (a .w) (a .h) (k .given .0 .0) (a .region .now) (a .mask .now) _
+    (sym (k .given .1) ∙ c .before .before .before .before .before .before .before .before .before .before .before .before .before .before .before .before .before .before .before .new .ensures) (binary (c .before .before .before .before .before .before .before)) (sym (c .before .before .before .before .before .before .place .kept .1 .0)) (c .before .before .before .before .before .before .place .ensures) (c .before .before .mask-levels .ensures))))

@@ -1,19 +1,35 @@
--- `picture_mask::mask_levels` makes a mask in the place of its region. Assumes nothing.
+-- `picture_mask::mask_levels` makes a mask in the place of its region, which is placed. Assumes nothing.
+use mathlib.Core.Path.{_∙_}
 use Prim.Native.Nat.{ℕ}
 use native.Mathlib.Omega.{arith}
 use borrow.Author.Needs.{needs}
 use lib.ListN.{length-replicate}
-use Rattle.picture_mask.proofs.Entry.{region-area, mask-result}
+use Rattle.picture_mask.specs.Areas.{Whole}
+use Rattle.picture_mask.proofs.Running.{rows-whole, cols-whole}
+use Rattle.picture_mask.proofs.Entry.{region-whole, region-more, low-area, mask-result}
 use Rattle.picture_mask.proofs.mask_levels.Statement.{statement}
 use Rattle.picture_mask.proofs.mask_levels.Tie as tie
 
-rows-requires : tie.Need-rows-requires
-rows-requires c κs = let n = length-replicate {A = ℕ} 32768 0 in let s = c .before .before .before .before in region-area _ _ _ _ _ _ (s .pre) (omega arith) (omega arith)
+-- the buffer after the rows and after the columns of the first level
+whole : (s : tie.Start) → Whole (s .args .w) (s .args .h) (s .args .marks .now)
+whole s = region-whole (s .args .levels) _ _ _ (s .pre)
 
-returns : tie.Need-returns
-returns c = let s = c .before .before .before .before .before .before .before .before .before in let r = c .before .before .before .before .rows in mask-result _ _ _ _ _ _ (s .pre) (r .kept .1 .0) (r .ensures)
+after-rows : (c : tie.After-placed-rows) → Whole (c .before .before .before .args .w) (c .before .before .before .args .h) (c .placed-rows .last .1 .0)
+after-rows c = rows-whole (c .before .before .before .args .kernel) (whole (c .before .before .before)) (c .placed-rows .kept .1 .0) _ (c .placed-rows .ensures)
+
+after-cols : (c : tie.After-placed-cols) → Whole (c .before .before .before .before .before .before .before .args .w) (c .before .before .before .before .before .before .before .args .h) (c .placed-cols .last .1 .0)
+after-cols c = cols-whole (c .before .before .before .before .before .before .before .args .kernel) (after-rows (c .before .before .before .before)) (c .placed-cols .kept .1 .0) (c .placed-cols .ensures)
 
 pub mask-levels-spec : {M : Type 1} → statement M
 mask-levels-spec =
-    tie.close
-    (tie.spec (λ c. search needs) (λ c. search needs) rows-requires (λ c. search needs) returns)
+    tie.close (tie.spec
+    (λ c κs. whole (c .before .before))
+    (λ c κs. after-rows (c .before .before .before))
+    (λ c. search needs)
+    (λ c. omega (arith, c .before .before .before .before .before .before .before .before .before .before .before .pre .levels))
+    (λ c κs. let s = c .before .before .before .before .before .before .before .before .before .before .before in let n = length-replicate {A = ℕ} 32768 0 in
+    (low-area (s .args .levels) _ _ _ (s .pre) _ _ (after-cols (c .before .before .before .before)) (omega arith), region-more _ _ _ _ (s .pre) .2))
+    (λ c. search needs)
+    (λ c. let s = c .before .before .before .before .before .before .before .before .before .before .before .before .before .before .before in
+    mask-result (s .args .levels) _ _ _ (s .pre) (s .args .kernel) _ _ _ (c .before .before .before .rows .kept .1 .0 ∙ c .before .before .before .before .before .before .before .before .placed-cols .kept .1 .0 ∙ c .before .before .before .before .before .before .before .before .before .before .before .before .placed-rows .kept .1 .0)
+    (c .before .before .before .before .before .before .before .before .before .before .before .before .placed-rows .ensures) (c .before .before .before .before .before .before .before .before .placed-cols .ensures) (c .before .before .before .rows .ensures)))

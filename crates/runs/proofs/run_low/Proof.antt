@@ -7,21 +7,24 @@ use Rattle.line.specs.Cells.{cell}
 use Rattle.line.specs.Formulas.{smoothing}
 use Rattle.runs.specs.Steps.{amountAt}
 use Rattle.runs.specs.declared.Step.the-variants.{Low}
-use Rattle.runs.proofs.Moves.{Moving, moving-none, move-fits, moving-more, moving-all}
+use Rattle.runs.proofs.Moves.{Moving, NearBy, moving-none, amount-kept, near-kept, near-read, move-fits, moving-more, moving-all}
 use Rattle.runs.proofs.run_low.Statement.{statement}
 use Rattle.runs.proofs.run_low.Tie as tie
 
 abbrev Inv-loop : tie.InvT-loop
-Inv-loop t₀ x n add at b k₀ t k = Moving add (λ i. smoothing (cell x (b + i)) (cell x (at + i))) at n t₀ t k
+Inv-loop l₀ n add at h b k₀ l k = Moving add (λ i. smoothing (cell l₀ (b + i)) (cell l₀ (h + i))) at n l₀ l k
 
 abbrev μ-loop : tie.MeasureT-loop
-μ-loop t₀ x n add at b k₀ t k = n - k
+μ-loop l₀ n add at h b k₀ l k = n - k
 
-abbrev head : tie.After-smoothing Inv-loop μ-loop → tie.At-loop Inv-loop μ-loop
-head c = c .before .before .before .before
+abbrev head : tie.After-smoothing-arg2 Inv-loop μ-loop → tie.At-loop Inv-loop μ-loop
+head c = c .before .before .before
 
-plain : (c : tie.After-smoothing Inv-loop μ-loop) → c .smoothing .result ≡ amountAt Low (head c .before .args .x .now) (head c .before .args .p) (head c .loop .k)
-plain c = c .smoothing .ensures ∙ search reading
+near : (c : tie.After-smoothing-arg2 Inv-loop μ-loop) → let h = head c in NearBy Low (h .loop .l) (h .before .args .p) (h .loop .k)
+near c = let h = head c in near-kept (h .before .pre .0) (h .loop .inv) (omega arith) (h .before .pre .1 .0)
+
+plain : (c : tie.After-smoothing Inv-loop μ-loop) → let h = head (c .before) in c .smoothing .result ≡ amountAt Low (h .before .args .l .now) (h .before .args .p) (h .loop .k)
+plain c = let h = head (c .before) in c .smoothing .ensures ∙ search reading ∙ amount-kept (h .before .pre .0) (h .loop .inv) (omega arith) Low
 
 pub run-low-spec : {M : Type 1} → statement M
 run-low-spec =
@@ -35,16 +38,16 @@ run-low-spec =
     (λ c. omega arith)
     (λ c. omega arith)
     (λ c. omega arith)
-    (λ c κs. tt)
+    (λ c κs. let w = near c in (near-read (c .before .smoothing-arg .given) (w .before), near-read (c .smoothing-arg2 .given) (w .here)))
     (λ c. omega arith)
     (λ c. omega arith)
     (λ c. omega arith)
-    (λ c κs. let a = c .before in let h = head a in move-fits (h .loop .inv) (c .shifted-arg .given) (a .smoothing .ok) (plain a) (h .before .pre .1 .fits (h .loop .k) (omega arith)))
+    (λ c κs. let a = c .before in let h = head (a .before) in move-fits (h .loop .inv) (omega arith) (c .shifted-arg .given) (a .smoothing .ok) (plain a) (h .before .pre .1 .1 .fits (h .loop .k) (omega arith)))
     (λ c. omega arith)
     (λ c. omega arith)
     (λ c. omega arith)
     (λ c. omega arith)
     (λ c. omega arith)
-    (λ c. let a = c .before .before in moving-more (head a .loop .inv) (c .before .shifted-arg .given) (a .smoothing .ok) (plain a) (omega arith) (c .shifted .ok) (c .shifted .ensures))
+    (λ c. let a = c .before .before in moving-more (head (a .before) .loop .inv) (omega arith) (c .before .shifted-arg .given) (a .smoothing .ok) (plain a) (c .shifted .ok) (c .shifted .ensures))
     (λ c. omega arith)
     (λ c. moving-all (c .before .loop .inv) (omega arith)))

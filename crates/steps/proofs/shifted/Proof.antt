@@ -1,32 +1,19 @@
 -- `steps::shifted` is t + amount, or t − amount. Assumes nothing.
 use mir.Syntax.{w32}
-use mir.Val.{SFits}
-use lib.IntN.{_+ℤ_, _-ℤ_}
-use Rattle.whole.proofs.Linear.{widen}
-use Rattle.whole.proofs.Run.{wide, var, _⊕_, _⊖_, Run, l, asks, asks32, gives32}
+use Rattle.whole.proofs.Run.{var, _⊕_, _⊖_, Run, asks, gives}
 use Rattle.steps.proofs.shifted.Statement.{statement}
 use Rattle.steps.proofs.shifted.Tie as tie
 
-up : (c : tie.Then1) → SFits w32 (c .before .args .t +ℤ c .before .args .amount)
-up c = rw (c .if1 .taken) at (c .before .pre)
+up : (c : tie.Then1) → Run w32 (var (c .before .args .t) ⊕ var (c .before .args .amount))
+up c = record { fit = (c .before .fits .t, c .before .fits .amount, rw (c .if1 .taken) at (c .before .pre)) }
 
-down : (c : tie.Else1) → SFits w32 (c .before .args .t -ℤ c .before .args .amount)
-down c = rw (c .if1 .left) at (c .before .pre)
-
-run-up : (c : tie.Then1) → Run (wide (c .before .args .t) ⊕ var (c .before .args .amount))
-run-up c = record { fit = (c .before .fits .t, c .before .fits .amount, widen (up c)) }
-
-run-down : (c : tie.Else1) → Run (wide (c .before .args .t) ⊖ var (c .before .args .amount))
-run-down c = record { fit = (c .before .fits .t, c .before .fits .amount, widen (down c)) }
+down : (c : tie.Else1) → Run w32 (var (c .before .args .t) ⊖ var (c .before .args .amount))
+down c = record { fit = (c .before .fits .t, c .before .fits .amount, rw (c .if1 .left) at (c .before .pre)) }
 
 pub shifted-spec : {M : Type 1} → statement M
 shifted-spec =
     tie.close (tie.spec
-    (λ c. asks (l (run-up c)))
-    (λ c. asks (run-up c))
-    (λ c. asks32 (run-up c) (up c))
-    (λ c. asks (l (run-down c)))
-    (λ c. asks (run-down c))
-    (λ c. asks32 (run-down c) (down c))
-    (λ c. rw (c .if1 .taken) (gives32 (run-up c) (up c)))
-    (λ c. rw (c .if1 .left) (gives32 (run-down c) (down c))))
+    (λ c. asks (up c))
+    (λ c. asks (down c))
+    (λ c. rw (c .if1 .taken) (gives (up c)))
+    (λ c. rw (c .if1 .left) (gives (down c))))

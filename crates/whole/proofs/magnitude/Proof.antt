@@ -7,13 +7,13 @@ use mir.Syntax.{w32, w64}
 use mir.Val.{toZ, ofZ}
 use mir.Facts.{toZ-ofZ}
 use Rattle.whole.specs.Within.{up, dn}
-use Rattle.whole.proofs.Linear.{ι-split, lin, size, lt-true, lt-false, below-neg, above-nonNeg, natAbs-fits}
+use Rattle.whole.proofs.Linear.{ι-split, lin, size, widen, lt-true, lt-false, below-neg, above-nonNeg, natAbs-fits}
 use Rattle.whole.proofs.Run.{Run, lit, wide, _⊖_, asks, gives, r}
 use Rattle.whole.proofs.magnitude.Statement.{statement}
 use Rattle.whole.proofs.magnitude.Tie as tie
 
-run : (c : tie.Start) → Run (lit 0 ⊖ wide (c .args .x))
-run c = let f = c .fits .x in record { fit = (tt, f, rw (ι-split (c .args .x)) (simp lin (omega (arith, size (c .args .x))))) }
+run : (c : tie.Start) → Run w64 (lit 0 ⊖ wide (c .args .x))
+run c = let f = c .fits .x in record { fit = (tt, (f, widen f), rw (ι-split (c .args .x)) (simp lin (omega (arith, size (c .args .x))))) }
 
 below : (c : tie.Then1) → up (c .before .args .x) < dn (c .before .args .x)
 below c = let f = c .before .fits .x in let t = lt-true (c .before .args .x) (pos 0) (simp toZ-ofZ at (c .if1 .taken)) in omega arith

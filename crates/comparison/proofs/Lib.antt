@@ -1,0 +1,2 @@
+-- The laws of the earlier functions for C.
+pub mod Entries

@@ -1,0 +1,17 @@
+-- The laws of the earlier passes.
+pub mod Quotients
+pub mod Run
+pub mod Wide
+pub mod Writes
+pub mod Moves
+pub mod Pairs
+pub mod Strips
+pub mod Lifts
+pub mod Transforms
+pub mod Copies
+pub mod Transfers
+pub mod Places
+pub mod Taking
+pub mod Running
+pub mod Bounds
+pub mod Levels

@@ -1,0 +1,250 @@
+-- The laws of stages: what one stage of a kernel makes of the parts of each line, one after the other; and that every number fits 32 bits.
+--
+--   Local M F == F's first M numbers are computed from the first M of its lines
+--
+-- Assumes nothing.
+use mathlib.Core.Path.{_≡_, refl, sym, ap, ap₂, _∙_}
+use mathlib.Core.Bool.{Bool, true, false}
+use mathlib.Core.List.{List}
+use Prim.Native.Nat.{ℕ, _+_, _*_, _-_, _/_, _%_, _^_, _<_, _≤_}
+use native.Mathlib.Omega.{arith}
+use lib.Arith.{digits-lt}
+use lib.Dec.{T, ltb}
+use lib.IntN.{ℤ, _+ℤ_, _-ℤ_}
+use lib.ListN.{length}
+use mir.Syntax.{w32}
+use Rattle.whole.specs.Within.{Within}
+use Rattle.whole.proofs.Linear.{within-fits}
+use Rattle.kernel.specs.declared.Kernel.{Kernel}
+use Rattle.kernel.specs.declared.Kernel.the-variants as kernel
+use Rattle.line.specs.Cells.{Line, cell, evens, paired}
+use Rattle.line.specs.Formulas.{mean, difference, firstOf, secondOf}
+use Rattle.line.specs.Inner.{AllWithin, Agree}
+use Rattle.line.specs.Transform.{means, differences, predict, pairHigh, low, high, undoneEvens, undoneOdds}
+use Rattle.line.proofs.Back.{add-none, sub-none}
+use Rattle.line.proofs.Bounds.{mean-within, difference-within, add-within, sub-within, first-within, second-within, within-more, predict-within, update-within}
+use Rattle.line.proofs.Cells.{by-lt, paired-even, paired-odd}
+use Rattle.line.proofs.Local.{predict-reach, update-local}
+use Rattle.steps.specs.Moved.{moved}
+use Rattle.runs.specs.Cells.{Pairs}
+use Rattle.runs.specs.declared.Step.{Step}
+use Rattle.runs.specs.declared.Step.the-variants.{SPlusP, TT, WideTT, High, Low}
+use Rattle.lifting.specs.Parts.{lane, Parts, Bounded, Both}
+use Rattle.lifting.specs.Steps.{amount, movedRow, EndToEnd, Fit, Lifted}
+use Rattle.lifting.specs.Lines.{pairFirst, pairSecond, firsts, seconds, PairFit, Pairable, predicted, again, lowsOf, highsOf}
+use Rattle.lifting.proofs.Rows.{row-place, row-in, line-in, run-place, same-row, parts-swap, parts-as, rows-other}
+use Rattle.lifting.proofs.Lifts.{amount-local}
+
+abbrev pub Local : ℕ → (Line ℤ → Line ℤ → Line ℤ) → Type 0
+Local M F = (A A′ B B′ : Line ℤ) → Agree M A A′ → Agree M B B′ → Agree M (F A B) (F A′ B′)
+
+-- ---- a stage, and the next
+module _ {a b t c m : ℕ} where
+  pub both-then : {F G F′ G′ : Line ℤ → Line ℤ → Line ℤ} {l l′ l″ : List ℤ} → Local m F′ → Local m G′ → Both F G a b t c 0 m l l′ → Both F′ G′ a b t c 0 m l′ l″
+      → Both (λ A B. F′ (F A B) (G A B)) (λ A B. G′ (F A B) (G A B)) a b t c 0 m l l″
+  both-then p q f g = record {
+    size = g .size ∙ f .size;
+    first = λ n j o h k. g .first n j o h k ∙ p _ _ _ _ (λ i lt. f .first i j (omega arith) lt k) (λ i lt. f .second i j (omega arith) lt k) n h;
+    second = λ n j o h k. g .second n j o h k ∙ q _ _ _ _ (λ i lt. f .first i j (omega arith) lt k) (λ i lt. f .second i j (omega arith) lt k) n h;
+    off = λ i x y. g .off i x y ∙ f .off i x y;
+  }
+
+  pub both-as : {F G F′ G′ : Line ℤ → Line ℤ → Line ℤ} {l l′ : List ℤ} → ((A B : Line ℤ) → Agree m (F A B) (F′ A B)) → ((A B : Line ℤ) → Agree m (G A B) (G′ A B))
+      → Both F G a b t c 0 m l l′ → Both F′ G′ a b t c 0 m l l′
+  both-as p q f = record {
+    size = f .size;
+    first = λ n j o h k. f .first n j o h k ∙ p _ _ n h;
+    second = λ n j o h k. f .second n j o h k ∙ q _ _ n h;
+    off = f .off;
+  }
+
+  -- a step that moves the second part, and one that moves the first
+  pub step-second : {s : Step} {add : Bool} {l l′ : List ℤ} → Parts a b t m c (length l) → Lifted s add m c 0 m b a t l l′
+      → Both (λ A B. A) (λ A B n. moved add (B n) (amount s m A n)) a b t c 0 m l l′
+  step-second g f = record {
+    size = f .rows .size;
+    first = λ n j o h k. rows-other 0 m (parts-swap g) (omega arith) (f .rows) n j h k;
+    second = f .rows .on;
+    off = λ i x y. f .rows .off i y;
+  }
+
+  pub step-first : {s : Step} {add : Bool} {l l′ : List ℤ} → Parts a b t m c (length l) → Lifted s add m c 0 m a b t l l′
+      → Both (λ A B n. moved add (A n) (amount s m B n)) (λ A B. B) a b t c 0 m l l′
+  step-first g f = record {
+    size = f .rows .size;
+    first = f .rows .on;
+    second = λ n j o h k. rows-other 0 m g (omega arith) (f .rows) n j h k;
+    off = λ i x y. f .rows .off i x;
+  }
+
+-- ---- pairs, as a run of rows and row after row
+module _ (join : Bool) {a b t c : ℕ} {l l′ : List ℤ} where
+  pub pair-run : (n r : ℕ) → EndToEnd t c r
+      → Pairs (λ k. pairFirst join (cell l (a + n * t + k)) (cell l (b + n * t + k))) (λ k. pairSecond join (cell l (a + n * t + k)) (cell l (b + n * t + k))) (a + n * t) (b + n * t) (r * c) l l′
+      → Both (firsts join) (seconds join) a b t c n (n + r) l l′
+  pair-run n r x p = record {
+    size = p .size;
+    first = λ m j q h k. let i = m - n in let d : n + i ≡ m = omega arith in let g = x .follow i (omega arith) in
+        let s : lane a t l′ j (n + i) ≡ pairFirst join (lane a t l j (n + i)) (lane b t l j (n + i))
+        = ap (cell l′) (row-place a t c n i j g) ∙ p .first (i * c + j) (digits-lt (omega arith) k)
+        ∙ ap₂ (pairFirst join) (ap (cell l) (sym (row-place a t c n i j g))) (ap (cell l) (sym (row-place b t c n i j g))) in
+        rw d at s;
+    second = λ m j q h k. let i = m - n in let d : n + i ≡ m = omega arith in let g = x .follow i (omega arith) in
+        let s : lane b t l′ j (n + i) ≡ pairSecond join (lane a t l j (n + i)) (lane b t l j (n + i))
+        = ap (cell l′) (row-place b t c n i j g) ∙ p .second (i * c + j) (digits-lt (omega arith) k)
+        ∙ ap₂ (pairSecond join) (ap (cell l) (sym (row-place a t c n i j g))) (ap (cell l) (sym (row-place b t c n i j g))) in
+        rw d at s;
+    off = λ i y z. p .off i
+        (λ k h e. y (n + k / c) (k % c) (omega arith) (omega (arith, row-in x a n k h)) (line-in x a n k h) (e ∙ run-place x a n k h))
+        (λ k h e. z (n + k / c) (k % c) (omega arith) (omega (arith, row-in x b n k h)) (line-in x b n k h) (e ∙ run-place x b n k h));
+  }
+
+pub pairs-able : (join : Bool) {a b t c r : ℕ} {l : List ℤ} (n : ℕ) → EndToEnd t c r → Pairable join a b t c n (n + r) l
+    → (k : ℕ) → k < r * c → PairFit join (cell l (a + n * t + k)) (cell l (b + n * t + k))
+pairs-able join {a} {b} {t} {c} n x p k h =
+    rw (run-place x a n k h, run-place x b n k h) (p .each (n + k / c) (k % c) (omega arith) (omega (arith, row-in x a n k h)) (line-in x a n k h))
+
+pub pair-none : (join : Bool) (a b t c d : ℕ) (l : List ℤ) → Both (firsts join) (seconds join) a b t c d d l l
+pair-none join a b t c d l = record { size = refl; first = λ n j p q h. absurd (omega arith); second = λ n j p q h. absurd (omega arith); off = λ i x y. refl }
+
+module _ (join : Bool) {a b t m c d e : ℕ} {l l′ : List ℤ} (g : Parts a b t m c (length l)) (top : e ≤ m) (f : Both (firsts join) (seconds join) a b t c d e l l′) where
+  first-old : (n j : ℕ) → e ≤ n → n < m → j < c → lane a t l′ j n ≡ lane a t l j n
+  first-old n j ge h k = f .off (a + n * t + j)
+      (λ n′ j′ p q r s. omega (arith, same-row a t c n j n′ j′ (g .wide) k r s)) (λ n′ j′ p q r s. g .apart n j n′ j′ h k (omega arith) r s)
+
+  second-old : (n j : ℕ) → e ≤ n → n < m → j < c → lane b t l′ j n ≡ lane b t l j n
+  second-old n j ge h k = f .off (b + n * t + j)
+      (λ n′ j′ p q r s. g .apart n′ j′ n j (omega arith) r h k (sym s)) (λ n′ j′ p q r s. omega (arith, same-row b t c n j n′ j′ (g .wide) k r s))
+
+  pub pairable-more : (u v : ℕ) → e ≤ u → v ≤ m → Pairable join a b t c u v l → Pairable join a b t c u v l′
+  pairable-more u v ge le p = record { each = λ n j q h k. rw (first-old n j (omega arith) (omega arith) k, second-old n j (omega arith) (omega arith) k) (p .each n j q h k) }
+
+  pub pair-join : (v : ℕ) {l″ : List ℤ} → d ≤ e → e ≤ v → v ≤ m → Both (firsts join) (seconds join) a b t c e v l′ l″ → Both (firsts join) (seconds join) a b t c d v l l″
+  pair-join v de ev le p = record {
+    size = p .size ∙ f .size;
+    first = λ n j u h k. by-lt n e
+        (λ lt. p .off (a + n * t + j) (λ n′ j′ q r s w. omega (arith, same-row a t c n j n′ j′ (g .wide) k s w)) (λ n′ j′ q r s w. g .apart n j n′ j′ (omega arith) k (omega arith) s w) ∙ f .first n j u lt k)
+        (λ ge. p .first n j ge h k ∙ ap₂ (pairFirst join) (first-old n j ge (omega arith) k) (second-old n j ge (omega arith) k));
+    second = λ n j u h k. by-lt n e
+        (λ lt. p .off (b + n * t + j) (λ n′ j′ q r s w. g .apart n′ j′ n j (omega arith) s (omega arith) k (sym w)) (λ n′ j′ q r s w. omega (arith, same-row b t c n j n′ j′ (g .wide) k s w)) ∙ f .second n j u lt k)
+        (λ ge. p .second n j ge h k ∙ ap₂ (pairSecond join) (first-old n j ge (omega arith) k) (second-old n j ge (omega arith) k));
+    off = λ i x y. p .off i (λ n j q h. x n j (omega arith) h) (λ n j q h. y n j (omega arith) h) ∙ f .off i (λ n j q h. x n j q (omega arith)) (λ n j q h. y n j q (omega arith));
+  }
+
+pub pairable-part : (join : Bool) {a b t c d e : ℕ} {l : List ℤ} (u v : ℕ) → Pairable join a b t c d e l → d ≤ u → v ≤ e → Pairable join a b t c u v l
+pairable-part join u v p x y = record { each = λ n j q h. p .each n j (omega arith) (omega arith) }
+
+-- ---- what fits 32 bits
+amount-within : (s : Step) (M a : ℕ) (L : Line ℤ) → AllWithin a M L → AllWithin (a + 1) M (amount s M L)
+amount-within SPlusP M a L all = predict-within kernel.SPlusP M a L all
+amount-within TT M a L all = predict-within kernel.TT M a L all
+amount-within WideTT M a L all = predict-within kernel.TT M a L all
+amount-within High M a L all = predict-within kernel.FiveThree M a L all
+amount-within Low M a L all = λ n h. within-more (update-within M a L all n h) (omega arith)
+
+moved-within : (add : Bool) (a b : ℕ) (t p : ℤ) → Within a t → Within b p → Within (a + b) (moved add t p)
+moved-within true a b t p v w = add-within a b t p v w
+moved-within false a b t p v w = sub-within a b t p v w
+
+-- a step on a part within p, from a part within q
+module _ (s : Step) (add : Bool) {M c u v t p q : ℕ} {l : List ℤ} (x : Bounded p u t M c l) (y : Bounded q v t M c l) where
+  pub moved-bound : (j : ℕ) → j < c → AllWithin (p + (q + 1)) M (λ n. movedRow s add M u v t l n j)
+  moved-bound j k n h = moved-within add p (q + 1) _ _ (x .each j k n h) (amount-within s M q (lane v t l j) (y .each j k) n h)
+
+  pub lift-fit : T (ltb (p + (q + 1)) (2 ^ 31)) → Fit s add M c 0 M u v t l
+  lift-fit fits = record { fits = λ n j o h k. within-fits w32 fits (moved-bound j k n h) }
+
+  pub lift-bounded : {l′ : List ℤ} → Lifted s add M c 0 M u v t l l′ → Bounded (p + (q + 1)) u t M c l′
+  lift-bounded f = record { each = λ j k n h. rw (f .rows .on n j (omega arith) h k) (moved-bound j k n h) }
+
+module _ {a b t m c r : ℕ} {l l′ : List ℤ} (x : Bounded r a t m c l) (y : Bounded r b t m c l) (f : Both (firsts false) (seconds false) a b t c 0 m l l′) where
+  pub means-bounded : Bounded r a t m c l′
+  means-bounded = record { each = λ j k n h. rw (f .first n j (omega arith) h k) (mean-within r _ _ (x .each j k n h) (y .each j k n h)) }
+
+  pub differences-bounded : Bounded (2 * r) b t m c l′
+  differences-bounded = record { each = λ j k n h. rw (f .second n j (omega arith) h k) (difference-within r _ _ (x .each j k n h) (y .each j k n h)) }
+
+module _ {a b t m c p q : ℕ} {l : List ℤ} (x : Bounded p a t m c l) (y : Bounded q b t m c l) where
+  pub split-able : p ≤ 2 ^ 29 → q ≤ 2 ^ 29 → Pairable false a b t c 0 m l
+  split-able i k = record { each = λ n j o h r. (within-more (x .each j r n h) i, within-more (y .each j r n h) k) }
+
+  pub join-able : T (ltb (p + (q + 1) / 2) (2 ^ 31)) → Pairable true a b t c 0 m l
+  join-able fits = record { each = λ n j o h r. (within-fits w32 fits (first-within p q _ _ (x .each j r n h) (y .each j r n h)), within-fits w32 fits (second-within p q _ _ (x .each j r n h) (y .each j r n h))) }
+
+-- ---- the stages are local
+pub first-local : {M : ℕ} → Local M (λ A B. A)
+first-local A A′ B B′ x y = x
+
+pub second-local : {M : ℕ} → Local M (λ A B. B)
+second-local A A′ B B′ x y = y
+
+pub pair-first-local : {M : ℕ} (join : Bool) → Local M (firsts join)
+pair-first-local join A A′ B B′ x y n h = ap₂ (pairFirst join) (x n h) (y n h)
+
+pub pair-second-local : {M : ℕ} (join : Bool) → Local M (seconds join)
+pair-second-local join A A′ B B′ x y n h = ap₂ (pairSecond join) (x n h) (y n h)
+
+pub moves-second-local : {M : ℕ} (s : Step) (add : Bool) → Local M (λ A B n. moved add (B n) (amount s M A n))
+moves-second-local {M} s add A A′ B B′ x y n h = ap₂ (moved add) (y n h) (amount-local s M n A A′ h x)
+
+pub moves-first-local : {M : ℕ} (s : Step) (add : Bool) → Local M (λ A B n. moved add (A n) (amount s M B n))
+moves-first-local {M} s add A A′ B B′ x y n h = ap₂ (moved add) (x n h) (amount-local s M n B B′ h y)
+
+-- ---- kernel by kernel
+module _ (M : ℕ) (A B : Line ℤ) where
+  means-of : (n : ℕ) → firsts false A B n ≡ means (paired A B) n
+  means-of n = sym (ap₂ mean (paired-even A B n) (paired-odd A B n))
+
+  differences-of : (n : ℕ) → seconds false A B n ≡ differences (paired A B) n
+  differences-of n = sym (ap₂ difference (paired-even A B n) (paired-odd A B n))
+
+  pair-high-of : (k : Kernel) (n : ℕ) → n < M → difference (A n) (B n) -ℤ predict k M (firsts false A B) n ≡ pairHigh k M (paired A B) n
+  pair-high-of k n h = ap₂ _-ℤ_ (differences-of n) (predict-reach k M n (firsts false A B) (means (paired A B)) h (λ i lt p q. means-of i))
+
+  high-of : (n : ℕ) → n < M → B n -ℤ predict kernel.FiveThree M A n ≡ high kernel.FiveThree M (paired A B) n
+  unfolding high
+  high-of n h = ap₂ _-ℤ_ (sym (paired-odd A B n)) (predict-reach kernel.FiveThree M n A (evens (paired A B)) h (λ i lt p q. sym (paired-even A B i)))
+
+module _ {a b t c m : ℕ} {l l′ : List ℤ} where
+  pub forward-s : Both (firsts false) (seconds false) a b t c 0 m l l′ → Both (lowsOf kernel.S m) (highsOf kernel.S m) a b t c 0 m l l′
+  unfolding low high
+  forward-s = both-as (λ A B n h. means-of m A B n) (λ A B n h. differences-of m A B n ∙ sym (sub-none m (means (paired A B)) n _))
+
+  pub forward-a : Both (firsts false) (predicted SPlusP m) a b t c 0 m l l′ → Both (lowsOf kernel.SPlusP m) (highsOf kernel.SPlusP m) a b t c 0 m l l′
+  unfolding low high
+  forward-a = both-as (λ A B n h. means-of m A B n) (λ A B n h. pair-high-of m A B kernel.SPlusP n h)
+
+  pub forward-tt : Both (firsts false) (predicted TT m) a b t c 0 m l l′ → Both (lowsOf kernel.TT m) (highsOf kernel.TT m) a b t c 0 m l l′
+  unfolding low high
+  forward-tt = both-as (λ A B n h. means-of m A B n) (λ A B n h. pair-high-of m A B kernel.TT n h)
+
+  pub back-s : Both (firsts true) (seconds true) a b t c 0 m l l′ → Both (undoneEvens kernel.S m) (undoneOdds kernel.S m) a b t c 0 m l l′
+  unfolding undoneEvens undoneOdds
+  back-s = both-as (λ A B n h. ap (firstOf (A n)) (sym (add-none m A n (B n)))) (λ A B n h. ap (secondOf (A n)) (sym (add-none m A n (B n))))
+
+  pub back-a : Both (λ A B. firsts true A (again SPlusP m A B)) (λ A B. seconds true A (again SPlusP m A B)) a b t c 0 m l l′ → Both (undoneEvens kernel.SPlusP m) (undoneOdds kernel.SPlusP m) a b t c 0 m l l′
+  unfolding undoneEvens undoneOdds
+  back-a = both-as (λ A B n h. refl) (λ A B n h. refl)
+
+  pub back-tt : Both (λ A B. firsts true A (again WideTT m A B)) (λ A B. seconds true A (again WideTT m A B)) a b t c 0 m l l′ → Both (undoneEvens kernel.TT m) (undoneOdds kernel.TT m) a b t c 0 m l l′
+  unfolding undoneEvens undoneOdds
+  back-tt = both-as (λ A B n h. refl) (λ A B n h. refl)
+
+  module _ {l″ : List ℤ} (g : Parts a b t m c (length l)) where
+    pub forward-pairs : {s : Step} → Both (firsts false) (seconds false) a b t c 0 m l l′ → Lifted s false m c 0 m b a t l′ l″ → Both (firsts false) (predicted s m) a b t c 0 m l l″
+    forward-pairs {s} f h = both-then first-local (moves-second-local s false) f (step-second (parts-as g (f .size)) h)
+
+    pub back-pairs : {s : Step} → Lifted s true m c 0 m b a t l l′ → Both (firsts true) (seconds true) a b t c 0 m l′ l″
+        → Both (λ A B. firsts true A (again s m A B)) (λ A B. seconds true A (again s m A B)) a b t c 0 m l l″
+    back-pairs {s} f h = both-then (pair-first-local true) (pair-second-local true) (step-second g f) h
+
+    pub forward-five-three : Lifted High false m c 0 m b a t l l′ → Lifted Low true m c 0 m a b t l′ l″ → Both (lowsOf kernel.FiveThree m) (highsOf kernel.FiveThree m) a b t c 0 m l l″
+    unfolding low
+    forward-five-three f h = both-as
+        (λ A B n k. ap₂ _+ℤ_ (sym (paired-even A B n)) (update-local m n _ (high kernel.FiveThree m (paired A B)) k (λ i lt. high-of m A B i lt)))
+        (λ A B n k. high-of m A B n k)
+        (both-then (moves-first-local Low true) second-local (step-second g f) (step-first (parts-as g (f .rows .size)) h))
+
+    pub back-five-three : Lifted Low false m c 0 m a b t l l′ → Lifted High true m c 0 m b a t l′ l″ → Both (undoneEvens kernel.FiveThree m) (undoneOdds kernel.FiveThree m) a b t c 0 m l l″
+    unfolding undoneEvens undoneOdds
+    back-five-three f h = both-as (λ A B n k. refl) (λ A B n k. refl) (both-then first-local (moves-second-local High true) (step-first g f) (step-second (parts-as g (f .rows .size)) h))

@@ -1,0 +1,132 @@
+-- Rows of samples that are transformed and stored where they end.
+--
+--   RowsIn k s w h i l l′ == so far the rows up to i are stored
+--
+-- Assumes nothing.
+use mathlib.Core.Path.{_≡_, refl, sym, ap, subst, _∙_, fun-ext}
+use mathlib.Core.List.{List}
+use Prim.Native.Nat.{ℕ, _+_, _*_, _-_, _/_, _%_, _^_, _<_, _≤_}
+use native.Mathlib.Nat.{mul-le-mul-right}
+use native.Mathlib.Omega.{arith}
+use lib.Arith.{digits-lt}
+use lib.IntN.{ℤ, pos}
+use lib.ListN.{length, getD, List·getD-eq-default}
+use Rattle.kernel.specs.declared.Kernel.{Kernel}
+use Rattle.line.specs.Inner.{Agree, AllWithin}
+use Rattle.line.specs.Cells.{Line, paired}
+use Rattle.line.specs.Transform.{low, high, forward}
+use Rattle.line.proofs.Cells.{by-lt, by-parity}
+use Rattle.line.proofs.Local.{forward-local}
+use Rattle.grid.specs.Picture.{Picture, rowPass, turned, colPass, picture}
+use Rattle.grid.specs.Placed.{parted, woven}
+use Rattle.grid.proofs.Passes.{cell, cell-past, row-of}
+use Rattle.grid.proofs.Outside.{row-below, row-right}
+use Rattle.grid.proofs.Parted.{row-cell, cols-parted-cell, source, source-low, source-high, source-lt, woven-even, woven-odd}
+use Rattle.runs.specs.Cells.{Written}
+use Rattle.transfer.specs.Moved.{Places, Twofold}
+use Rattle.lifting.specs.Parts.{lane, Parts, Bounded, Both}
+use Rattle.lifting.specs.Lines.{lowsOf, highsOf}
+use Rattle.passes.specs.Passes.{pictured, Area}
+use Rattle.passes.proofs.Forms.{forward-form}
+
+-- ---- one row, parted in place
+pub row-parts : (at m size : ℕ) → 0 < m → m < 2 ^ 32 → at + 2 * m ≤ size → Parts at (at + m) 1 m 1 size
+row-parts at m size some few room = record {
+  some = some;
+  few = few;
+  lines = omega arith;
+  wide = omega arith;
+  first = record { place = λ n j h k. omega arith };
+  second = record { place = λ n j h k. omega arith };
+  apart = λ n j n′ j′ h k h′ k′ e. omega arith;
+}
+
+pub row-places : {A : Type 0} (at m : ℕ) (l : List A) → at + 2 * m ≤ length l → Places (λ k. at + k) (λ k. at + m + k) m l
+row-places at m l h = record {
+  first = λ k r. omega arith;
+  second = λ k r. omega arith;
+  apart = λ i k r p e. omega arith;
+  firsts = λ i k r e. omega arith;
+  seconds = λ i k r e. omega arith;
+}
+
+module _ (X : Line ℤ) (at m : ℕ) {l l₁ : List ℤ} (p : Twofold (pos 0) (λ k. X (2 * k)) (λ k. X (2 * k + 1)) (λ k. at + k) (λ k. at + m + k) m l l₁) where
+  front : (n j : ℕ) → n < m → j < 1 → lane at 1 l₁ j n ≡ X (2 * n)
+  front n j h k = ap (λ (i : ℕ). getD l₁ i (pos 0)) (omega arith) ∙ p .first n h
+
+  rear : (n j : ℕ) → n < m → j < 1 → lane (at + m) 1 l₁ j n ≡ X (2 * n + 1)
+  rear n j h k = ap (λ (i : ℕ). getD l₁ i (pos 0)) (omega arith) ∙ p .second n h
+
+  module _ (all : AllWithin (5 * 2 ^ 22) (2 * m) X) where
+    pub front-bounded : Bounded (5 * 2 ^ 22) at 1 m 1 l₁
+    front-bounded = record { each = λ j k n h. rw (front n j h k) (all (2 * n) (omega arith)) }
+
+    pub rear-bounded : Bounded (5 * 2 ^ 22) (at + m) 1 m 1 l₁
+    rear-bounded = record { each = λ j k n h. rw (rear n j h k) (all (2 * n + 1) (omega arith)) }
+
+  pub row-stored : (k : Kernel) {l₂ : List ℤ} → Both (lowsOf k m) (highsOf k m) at (at + m) 1 1 0 m l₁ l₂ → Written (forward k (2 * m) X) at (2 * m) l l₂
+  row-stored k {l₂} f =
+      let e : at + m ≡ at + m * 1 = omega arith in
+      let g = forward-form k m 1 l₁ l₂ at 1 (subst (λ (b : ℕ). Both (lowsOf k m) (highsOf k m) at b 1 1 0 m l₁ l₂) e f) in
+      record {
+        size = f .size ∙ p .size;
+        on = λ n h. ap (λ (i : ℕ). getD l₂ i (pos 0)) (omega arith) ∙ g .on n 0 h (omega arith) ∙ forward-local k (2 * m) _ X (omega arith) same n h;
+        below = λ i h. g .off i (λ n j r q e. omega arith) ∙ p .off i (λ n r e. omega arith) (λ n r e. omega arith);
+        above = λ i h. g .off i (λ n j r q e. omega arith) ∙ p .off i (λ n r e. omega arith) (λ n r e. omega arith);
+      }
+    where
+      same : Agree (2 * m) (woven (2 * m) (λ n. getD l₁ (at + 0 + n * 1) (pos 0))) X
+      same = by-parity (λ x. x < 2 * m → woven (2 * m) (λ n. getD l₁ (at + 0 + n * 1) (pos 0)) x ≡ X x)
+          (λ n r. woven-even (2 * m) n _ ∙ ap (λ (i : ℕ). getD l₁ i (pos 0)) (omega arith) ∙ front n 0 (omega arith) (omega arith))
+          (λ n r. woven-odd (2 * m) n _ ∙ ap (λ (i : ℕ). getD l₁ i (pos 0)) (omega arith) ∙ rear n 0 (omega arith) (omega arith))
+
+pub samples-parted : (s : List ℕ) (from at m : ℕ) {l l₁ : List ℤ}
+    → Twofold (pos 0) (λ k. pos (getD s (from + 2 * k) 0)) (λ k. pos (getD s (from + 2 * k + 1) 0)) (λ k. at + k) (λ k. at + m + k) m l l₁
+    → Twofold (pos 0) (λ k. pos (getD s (from + 2 * k) 0)) (λ k. pos (getD s (from + (2 * k + 1)) 0)) (λ k. at + k) (λ k. at + m + k) m l l₁
+samples-parted s from at m p = record { size = p .size; first = p .first; second = λ k h. p .second k h ∙ ap (λ (i : ℕ). pos (getD s i 0)) (omega arith); off = p .off }
+
+-- ---- row after row
+pub source-of : (h i : ℕ) {y : ℕ} → (i < h / 2 → y ≡ 2 * i) → (h / 2 ≤ i → y ≡ 2 * (i - h / 2) + 1) → y ≡ source h i
+source-of h i low high = by-lt i (h / 2) (λ lt. low lt ∙ sym (source-low h i lt)) (λ ge. high ge ∙ sym (source-high h i ge))
+
+pub record RowsIn (k : Kernel) (s : List ℕ) (w h i : ℕ) (l l′ : List ℤ) : Type 0 where
+  pub count : i ≤ h
+  pub size : length l′ ≡ length l
+  pub stored : (y x : ℕ) → y < i → x < w → getD l′ (y * w + x) (pos 0) ≡ forward k w (pictured w s (source h y)) x
+
+-- a row of the picture, and its places
+pub row-within : (r w y : ℕ) (s : List ℕ) → AllWithin r w (pictured w s y) → AllWithin r (2 * (w / 2)) (λ x. pos (getD s (y * w + x) 0))
+row-within r w y s all x h = let t = all x (omega arith) in rw (cell 0 w s y x (omega arith)) at t
+
+pub row-ends : (w h y : ℕ) → 0 < w → y < h → y * w + 2 * (w / 2) ≤ h * w
+row-ends w h y some lt = omega (arith, digits-lt {q = y} {m = h} {r = w - 1} {c = w} lt (omega arith))
+
+pub rows-in-none : (k : Kernel) (s : List ℕ) (w h : ℕ) (l : List ℤ) → RowsIn k s w h 0 l l
+rows-in-none k s w h l = record { count = omega arith; size = refl; stored = λ y x p q. absurd (omega arith) }
+
+module _ {k : Kernel} {s : List ℕ} {w h i : ℕ} {l l′ : List ℤ} (even : w % 2 ≡ 0) (p : RowsIn k s w h i l l′) where
+  pub rows-in-more : {l″ : List ℤ} → i < h → Written (forward k (2 * (w / 2)) (λ x. pos (getD s (source h i * w + x) 0))) (i * w) (2 * (w / 2)) l′ l″ → RowsIn k s w h (i + 1) l l″
+  rows-in-more {l″} lt f =
+      let e : 2 * (w / 2) ≡ w = omega arith in
+      let g : Written (forward k w (λ x. pos (getD s (source h i * w + x) 0))) (i * w) w l′ l″ = subst (λ (n : ℕ). Written (forward k n (λ x. pos (getD s (source h i * w + x) 0))) (i * w) n l′ l″) e f in
+      record {
+        count = omega arith;
+        size = g .size ∙ p .size;
+        stored = λ y x a b. by-lt y i
+            (λ old. g .below (y * w + x) (digits-lt {q = y} {m = i} {r = x} {c = w} old b) ∙ p .stored y x old b)
+            (λ new. let z : y ≡ i = omega arith in rw z (g .on x b ∙ forward-local k w _ _ even (λ v q. sym (ap pos (cell 0 w s (source h i) v q))) x b));
+      }
+
+-- all rows
+pub rows-in-all : (k : Kernel) (s : List ℕ) (w h : ℕ) (l l′ : List ℤ) → w % 2 ≡ 0 → h % 2 ≡ 0 → length l ≡ h * w → length s ≡ h * w → RowsIn k s w h h l l′
+    → picture (pos 0) w l′ ≡ colPass parted w h (rowPass (forward k) w h (pictured w s))
+rows-in-all k s w h l l′ even-w even-h same-l same-s p = fun-ext λ y. fun-ext λ x. by-lt x w
+    (λ j. by-lt y h
+    (λ i. cell (pos 0) w l′ y x j ∙ p .stored y x i j ∙ sym (row-cell (forward k) w h (source h y) x (pictured w s) (source-lt h y even-h i) j) ∙ sym (cols-parted-cell w h y x (rowPass (forward k) w h (pictured w s)) i j))
+    (λ i. cell (pos 0) w l′ y x j ∙ List·getD-eq-default l′ (pos 0) (omega (arith, p .size, digits-le y x i))
+    ∙ sym (row-right parted h w x y (turned (rowPass (forward k) w h (pictured w s))) i ∙ row-below (forward k) w h y x (pictured w s) i
+    ∙ ap pos (cell 0 w s y x j ∙ List·getD-eq-default s 0 (omega (arith, digits-le y x i))))))
+    (λ j. cell-past (pos 0) w l′ y x j ∙ sym (row-below parted h w x y (turned (rowPass (forward k) w h (pictured w s))) j ∙ row-right (forward k) w h y x (pictured w s) j ∙ ap pos (cell-past 0 w s y x j)))
+  where
+    digits-le : (y x : ℕ) → h ≤ y → h * w ≤ y * w + x
+    digits-le y x i = let le : h * w ≤ y * w = mul-le-mul-right w i in omega arith

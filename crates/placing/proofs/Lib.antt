@@ -1,0 +1,3 @@
+-- The laws of coefficients that are placed.
+pub mod Rows
+pub mod Placing

@@ -1,0 +1,2 @@
+-- What the contract on placing cites.
+pub mod Placed

@@ -1,0 +1,20 @@
+//! What the benchmark and the comparison share: the picture and the timing.
+
+pub mod timing;
+
+/// A slope with edges and some noise, as a panel has.
+pub fn picture(side: usize) -> Vec<u16> {
+    let mut noise: u64 = 1;
+    let mut samples = Vec::with_capacity(side * side);
+    for y in 0..side {
+        for x in 0..side {
+            noise ^= noise << 13;
+            noise ^= noise >> 7;
+            noise ^= noise << 17;
+            let slope = (3 * x + 5 * y) / 64 % 160;
+            let lamp = if (x / 96 + y / 64) % 5 == 0 { 80 } else { 0 };
+            samples.push((slope + lamp + noise as usize % 8) as u16);
+        }
+    }
+    samples
+}
