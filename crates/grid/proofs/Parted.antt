@@ -164,11 +164,6 @@ module _ {A : Type 0} (w h : ℕ) (P : Picture A) (even-w : w % 2 ≡ 0) (even-h
       ap (rowPass woven w h) (col-back parted woven woven-local woven-parted w h (rowPass parted w h P) even-h)
       ∙ row-back parted woven woven-local woven-parted w h P even-w
 
-  pub placed-again : placed w h (rowPass woven w h (colPass woven w h P)) ≡ P
-  placed-again =
-      ap (colPass parted w h) (row-back woven parted parted-local parted-woven w h (colPass woven w h P) even-w)
-      ∙ col-back woven parted parted-local parted-woven w h P even-h
-
   -- the first level, on a placed picture
   pub level-on-placed : (T : Transform A) → Local T → colPass (onWoven T) w h (rowPass (onWoven T) w h (placed w h P)) ≡ colPass T w h (rowPass T w h P)
   level-on-placed T local =

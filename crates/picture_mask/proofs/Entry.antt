@@ -51,15 +51,14 @@ module _ (J W H : ℕ) (l : List ℕ) (r : Region J W H l) where
   }
 
   -- the low quarter after the first level
-  pub low-area : (l′ x : List ℕ) → Whole W H l′ → 32768 ≤ length x → Area W (W / 2) (H / 2) l′ x
-  low-area l′ x z room = let s = multiples J W H (r .size) .0 in record {
+  pub low-area : (l′ : List ℕ) → Whole W H l′ → Area W (W / 2) (H / 2) l′
+  low-area l′ z = let s = multiples J W H (r .size) .0 in record {
     some-w = omega (arith, z .some-w, z .even-w);
     some-h = omega (arith, z .some-h, z .even-h);
     w-most = omega (arith, s .width .1);
     h-most = omega (arith, s .height .1);
     wide = omega arith;
     fits = omega (arith, z .full, mul-le-mul-right {m = H / 2} {n = H} W (omega arith));
-    room = room;
     marks = z .marks;
   }
 
@@ -79,10 +78,10 @@ module _ (J W H : ℕ) (l : List ℕ) (r : Region J W H l) where
   }
 
 -- ---- the sides of a picture that takes a level
-pub sides-even : (J W H : ℕ) → 0 < J → badSizeAt J W H ≡ false → (W % 2 ≡ 0) × (H % 2 ≡ 0) × (H ≤ 4096)
+pub sides-even : (J W H : ℕ) → 0 < J → badSizeAt J W H ≡ false → (W % 2 ≡ 0) × (H % 2 ≡ 0) × (W ≤ 4096) × (H ≤ 4096)
 sides-even J W H some e =
     let s = multiples J W H e in let m = halves-more J W H some (halves-of J W H (s .1) (s .2)) in
-    (m .0, m .1, s .0 .height .1)
+    (m .0, m .1, s .0 .width .1, s .0 .height .1)
 
 -- ---- the call: a region l, placed in the mask's buffer as c; what is placed are its marks
 pub placed-marks : (J W H : ℕ) (l c : List ℕ) → 0 < J → badSizeAt J W H ≡ false → Binary l → picture 0 W c ≡ placed W H (picture 0 W l) → Binary c

@@ -21,7 +21,8 @@ use Rattle.grid.specs.Picture.{Picture, Transform, onLine, rowPass, turned, col
 use Rattle.grid.specs.Buffer.{InBuffer, Lines}
 use Rattle.grid.specs.Placed.{woven, onWoven, placed}
 use Rattle.grid.proofs.Passes.{Local, cell-of, pass-none, row-more, col-more}
-use Rattle.grid.proofs.Parted.{source, placed-cell, placed-below, placed-right}
+use Rattle.grid.proofs.Parted.{source, parted-source, placed-cell, placed-below, placed-right}
+use Rattle.transfer.specs.Parting.{PartedCopy}
 use Rattle.line_mask.specs.Marks.{byte, Parts}
 use Rattle.picture_mask.specs.Areas.{Binary, Strip, Area, Whole, maskLineBytes}
 use Rattle.picture_mask.proofs.Taking.{parts-of}
@@ -107,8 +108,8 @@ module _ {T : Transform ℕ} (made : MarksMade T) {W : ℕ} (some : 0 < W) {l l�
   cols-binary e = binary-of W l′ _ some e (λ y x. pass-most made h w (turned (picture 0 W l)) (λ v u. picture-most W l b u v) x y)
 
 -- ---- an area after a pass over h rows or w columns of it
-module _ {W w h : ℕ} {l x : List ℕ} (l′ x′ : List ℕ) (z : Area W w h l x) (p : length l′ ≡ length l) (q : length x′ ≡ length x) where
-  area-same : Binary l′ → Area W w h l′ x′
+module _ {W w h : ℕ} {l : List ℕ} (l′ : List ℕ) (z : Area W w h l) (p : length l′ ≡ length l) where
+  area-same : Binary l′ → Area W w h l′
   area-same marks = record {
     some-w = z .some-w;
     some-h = z .some-h;
@@ -116,18 +117,17 @@ module _ {W w h : ℕ} {l x : List ℕ} (l′ x′ : List ℕ) (z : Area W w h l
     h-most = z .h-most;
     wide = z .wide;
     fits = rw p (z .fits);
-    room = rw q (z .room);
     marks = marks;
   }
 
-  pub rows-area : (k : Kernel) (n : ℕ) → picture 0 W l′ ≡ rowPass (maskLineBytes k) w n (picture 0 W l) → Area W w h l′ x′
+  pub rows-area : (k : Kernel) (n : ℕ) → picture 0 W l′ ≡ rowPass (maskLineBytes k) w n (picture 0 W l) → Area W w h l′
   rows-area k n e = area-same (rows-binary (mask-made k) (omega (arith, z .some-w, z .wide)) (z .marks) w n e)
 
-  pub cols-area : (k : Kernel) (n : ℕ) → picture 0 W l′ ≡ colPass (maskLineBytes k) n h (picture 0 W l) → Area W w h l′ x′
+  pub cols-area : (k : Kernel) (n : ℕ) → picture 0 W l′ ≡ colPass (maskLineBytes k) n h (picture 0 W l) → Area W w h l′
   cols-area k n e = area-same (cols-binary (mask-made k) (omega (arith, z .some-w, z .wide)) (z .marks) n h e)
 
 -- its low quarter
-pub area-low : {W w h : ℕ} {l x : List ℕ} → Area W w h l x → w % 2 ≡ 0 → h % 2 ≡ 0 → Area W (w / 2) (h / 2) l x
+pub area-low : {W w h : ℕ} {l : List ℕ} → Area W w h l → w % 2 ≡ 0 → h % 2 ≡ 0 → Area W (w / 2) (h / 2) l
 area-low {W} {w} {h} z p q = record {
   some-w = omega (arith, z .some-w);
   some-h = omega (arith, z .some-h);
@@ -135,28 +135,27 @@ area-low {W} {w} {h} z p q = record {
   h-most = omega (arith, z .h-most);
   wide = omega (arith, z .wide);
   fits = let le : h / 2 * W ≤ h * W = mul-le-mul-right W (omega arith) in omega (arith, z .fits);
-  room = z .room;
   marks = z .marks;
 }
 
 -- ---- what a row and a strip of columns ask
-module _ {W w h : ℕ} {l x : List ℕ} (z : Area W w h l x) where
-  pub row-strip : w % 2 ≡ 0 → Strip w 1 x
-  row-strip even = record { some = z .some-w; even = even; few = omega (arith, z .w-most); room = omega (arith, z .w-most, z .room) }
+module _ {W w h : ℕ} {l : List ℕ} (z : Area W w h l) where
+  pub row-in : (y : ℕ) → y < h → y * W + w ≤ length l
+  row-in y p = omega (arith, z .wide, z .fits, mul-le-mul-right {m = y + 1} {n = h} W (omega arith))
 
-  pub row-in : (y : ℕ) → y < h → InBuffer l (y * W) 1 w 1
-  row-in y p = record {
-    some = omega arith;
-    apart = omega arith;
-    place = λ n j i r. omega (arith, z .wide, z .fits, digits-lt {q = y} {m = h} {r = n} {c = W} p (omega (arith, z .wide)));
-  }
+  -- after it is parted, as l′
+  pub parted-parts : {l′ : List ℕ} (y low : ℕ) → y < h → w % 2 ≡ 0 → low ≡ w / 2 → PartedCopy 0 l (y * W) (y * W) w l l′ → Parts (y * W) (y * W + low) 1 (w / 2) l′
+  parted-parts {l′} y low p even e f = parts-of (y * W) (y * W + low) 1 w l′ even (omega arith) (z .some-w)
+      (omega (arith, f .size, row-in y p))
+      (λ i h. let q : byte l′ (y * W + i) ≡ byte l (y * W + source w i) = f .on i (omega arith) ∙ parted-source w i (λ v. byte l (y * W + v)) in
+      rw q (z .marks .each (y * W + source w i)))
 
-  pub col-strip : h % 2 ≡ 0 → (c : ℕ) → c ≤ 32768 / h → Strip h c x
-  col-strip even c le = record {
+  pub col-strip : h % 2 ≡ 0 → (x : List ℕ) → 32768 ≤ length x → (c : ℕ) → c ≤ 32768 / h → Strip h c x
+  col-strip even x room c le = record {
     some = z .some-h;
     even = even;
     few = omega (arith, z .h-most);
-    room = omega (arith, z .room, mul-le-mul-left h le, mul-comm h (32768 / h), div-mul-le-self 32768 h);
+    room = omega (arith, mul-le-mul-left h le, mul-comm h (32768 / h), div-mul-le-self 32768 h);
   }
 
   pub most-lanes : 0 < 32768 / h
@@ -188,12 +187,12 @@ module _ {W H : ℕ} {l : List ℕ} (z : Whole W H l) where
   whole-same e b = record { some-w = z .some-w; some-h = z .some-h; even-w = z .even-w; even-h = z .even-h; full = e ∙ z .full; marks = b }
 
 -- ---- the buffer while a pass runs
-module _ (k : Kernel) {W w h : ℕ} {l₀ x₀ l x : List ℕ} (z : Area W w h l₀ x₀) (q : length x ≡ length x₀) where
-  pub rows-now : {y : ℕ} → RowsMasked (maskLineBytes k) W w h y l₀ l → Area W w h l x
-  rows-now {y} p = rows-area l x z (p .same) q k y (p .passed)
+module _ (k : Kernel) {W w h : ℕ} {l₀ l : List ℕ} (z : Area W w h l₀) where
+  pub rows-now : {y : ℕ} → RowsMasked (maskLineBytes k) W w h y l₀ l → Area W w h l
+  rows-now {y} p = rows-area l z (p .same) k y (p .passed)
 
-  pub cols-now : {y : ℕ} → ColsMasked (maskLineBytes k) W w h y l₀ l → Area W w h l x
-  cols-now {y} p = cols-area l x z (p .same) q k y (ap turned (p .passed))
+  pub cols-now : {y : ℕ} → ColsMasked (maskLineBytes k) W w h y l₀ l → Area W w h l
+  cols-now {y} p = cols-area l z (p .same) k y (ap turned (p .passed))
 
 module _ (k : Kernel) {W H : ℕ} {l l′ : List ℕ} (z : Whole W H l) (e : length l′ ≡ length l) where
   pub rows-whole : (y : ℕ) → picture 0 W l′ ≡ rowPass (onWoven (maskLineBytes k)) W y (picture 0 W l) → Whole W H l′

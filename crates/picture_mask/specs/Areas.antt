@@ -2,7 +2,7 @@
 --
 --   Binary l              == each byte of l is 0 or 1
 --   Strip n c x           == working memory x has room for c lines of n marks, n even
---   Area stride w h l x   == an upper left area of w by h marks in a buffer l of rows of `stride` bytes, with working memory x
+--   Area stride w h l     == an upper left area of w by h marks in a buffer l of rows of `stride` bytes
 --   Whole W H l           == l is a picture of W by H marks, of even sides
 --   Region J W H l        == l is the region of a picture of W by H that takes J levels
 --   bytes B               == the picture of the bytes of B's marks
@@ -31,14 +31,13 @@ pub record Strip (n c : ℕ) (x : List ℕ) : Type 0 where
   pub few : n ≤ 4096
   pub room : n * c ≤ length x
 
-pub record Area (stride w h : ℕ) (l x : List ℕ) : Type 0 where
+pub record Area (stride w h : ℕ) (l : List ℕ) : Type 0 where
   pub some-w : 0 < w
   pub some-h : 0 < h
   pub w-most : w ≤ 2048
   pub h-most : h ≤ 2048
   pub wide : w ≤ stride
   pub fits : h * stride ≤ length l
-  pub room : 32768 ≤ length x
   pub marks : Binary l
 
 pub record Whole (W H : ℕ) (l : List ℕ) : Type 0 where

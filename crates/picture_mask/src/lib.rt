@@ -2,7 +2,7 @@
 // coefficient ends, so that its passes move nothing; the deeper levels go through working memory.
 ghost use mathlib.Core.Path.{_≡_};
 ghost use mathlib.Core.Bool.{Bool, true};
-ghost use Prim.Native.Nat.{_*_, _-_, _/_, _%_, _<_, min};
+ghost use Prim.Native.Nat.{_*_, _-_, _/_, _%_, _<_, _≤_, min};
 ghost use lib.ListN.{length};
 ghost use Rattle.grid.specs.Picture.{Picture, rowPass, colPass, walk, picture};
 ghost use Rattle.grid.specs.Buffer.{InBuffer, Lines, Halves};
@@ -16,36 +16,39 @@ use kernel::Kernel;
 use refusal::Answer;
 use refusal::Refusal;
 
-// Masks, through working memory, `lanes` lines of n marks, the first mark of line j at start + j, the others of it step apart.
-fn lines(
+// The row pass over an area of w by h, in rows of stride bytes: each row is parted in place, and masked in its two parts.
+fn row_pass(kernel: Kernel, buf: &mut [u8], line: &mut [u16], stride: usize, w: usize, h: usize)
+    requires { ⌜ Area stride w h (now buf) ⌝ }
+    requires { ⌜ (w % 2 ≡ 0) × (1024 ≤ length (now line)) ⌝ }
+    ensures { λ _. ⌜ picture 0 stride (now (buf .exit)) ≡ rowPass (maskLineBytes kernel) w h (picture 0 stride (now (buf .entry))) ⌝ }
+{
+    let low = w - w / 2;
+    for y in 0..h {
+        let at = y * stride;
+        transfer::bytes::part_row(buf, line, at, w);
+        line_mask::mask(kernel, buf, at, at + low, w / 2, 1);
+    }
+}
+
+// Masks, through working memory, `lanes` columns of n marks, the first mark of column j at start + j, the others of it stride apart.
+fn columns(
     kernel: Kernel,
     buf: &mut [u8],
     strip: &mut [u8],
     start: usize,
-    step: usize,
+    stride: usize,
     n: usize,
     lanes: usize,
 )
-    requires { ⌜ InBuffer (now buf) start step n lanes ⌝ }
+    requires { ⌜ InBuffer (now buf) start stride n lanes ⌝ }
     requires { ⌜ Strip n lanes (now strip) ⌝ }
     requires { ⌜ Binary (now buf) ⌝ }
-    ensures { λ _. ⌜ Lines (maskLineBytes kernel) 0 start step n lanes (now (buf .entry)) (now (buf .exit)) ⌝ }
+    ensures { λ _. ⌜ Lines (maskLineBytes kernel) 0 start stride n lanes (now (buf .entry)) (now (buf .exit)) ⌝ }
 {
     let low = n - n / 2;
-    transfer::bytes::take(buf, strip, start, step, n, lanes);
+    transfer::bytes::take(buf, strip, start, stride, n, lanes);
     line_mask::mask(kernel, strip, 0, low * lanes, n / 2, lanes);
-    transfer::bytes::put(strip, buf, start, step, n, lanes);
-}
-
-// The row pass over an area of w by h, in rows of stride bytes.
-fn row_pass(kernel: Kernel, buf: &mut [u8], strip: &mut [u8], stride: usize, w: usize, h: usize)
-    requires { ⌜ Area stride w h (now buf) (now strip) ⌝ }
-    requires { ⌜ w % 2 ≡ 0 ⌝ }
-    ensures { λ _. ⌜ picture 0 stride (now (buf .exit)) ≡ rowPass (maskLineBytes kernel) w h (picture 0 stride (now (buf .entry))) ⌝ }
-{
-    for y in 0..h {
-        lines(kernel, buf, strip, y * stride, 1, w, 1);
-    }
+    transfer::bytes::put(strip, buf, start, stride, n, lanes);
 }
 
 // The smaller of two numbers.
@@ -57,15 +60,15 @@ fn least(x: usize, y: usize) -> usize
 
 // The column pass over the same area, a strip of columns at a time: as many as the working memory holds.
 fn col_pass(kernel: Kernel, buf: &mut [u8], strip: &mut [u8], stride: usize, w: usize, h: usize)
-    requires { ⌜ Area stride w h (now buf) (now strip) ⌝ }
-    requires { ⌜ h % 2 ≡ 0 ⌝ }
+    requires { ⌜ Area stride w h (now buf) ⌝ }
+    requires { ⌜ (h % 2 ≡ 0) × (32768 ≤ length (now strip)) ⌝ }
     ensures { λ _. ⌜ picture 0 stride (now (buf .exit)) ≡ colPass (maskLineBytes kernel) w h (picture 0 stride (now (buf .entry))) ⌝ }
 {
     let most = 32768 / h;
     let mut x: usize = 0;
     while x < w {
         let lanes = least(most, w - x);
-        lines(kernel, buf, strip, x, stride, h, lanes);
+        columns(kernel, buf, strip, x, stride, h, lanes);
         x += lanes;
     }
 }
@@ -75,18 +78,19 @@ fn rows(
     kernel: Kernel,
     buf: &mut [u8],
     strip: &mut [u8],
+    line: &mut [u16],
     stride: usize,
     w: usize,
     h: usize,
     levels: usize,
 )
-    requires { ⌜ Area stride w h (now buf) (now strip) ⌝ }
-    requires { ⌜ Halves levels w h ⌝ }
+    requires { ⌜ Area stride w h (now buf) ⌝ }
+    requires { ⌜ Halves levels w h × (32768 ≤ length (now strip)) × (1024 ≤ length (now line)) ⌝ }
     ensures { λ _. ⌜ picture 0 stride (now (buf .exit)) ≡ walk (maskLineBytes kernel) levels w h (picture 0 stride (now (buf .entry))) ⌝ }
 {
     if 0 < levels {
-        row_pass(kernel, buf, strip, stride, w, h);
-        cols(kernel, buf, strip, stride, w, h, levels);
+        row_pass(kernel, buf, line, stride, w, h);
+        cols(kernel, buf, strip, line, stride, w, h, levels);
     }
 }
 
@@ -95,18 +99,19 @@ fn cols(
     kernel: Kernel,
     buf: &mut [u8],
     strip: &mut [u8],
+    line: &mut [u16],
     stride: usize,
     w: usize,
     h: usize,
     levels: usize,
 )
     requires { ⌜ 0 < levels ⌝ }
-    requires { ⌜ Area stride w h (now buf) (now strip) ⌝ }
-    requires { ⌜ Halves levels w h ⌝ }
+    requires { ⌜ Area stride w h (now buf) ⌝ }
+    requires { ⌜ Halves levels w h × (32768 ≤ length (now strip)) × (1024 ≤ length (now line)) ⌝ }
     ensures { λ _. ⌜ picture 0 stride (now (buf .exit)) ≡ walk (maskLineBytes kernel) (levels - 1) (w / 2) (h / 2) (colPass (maskLineBytes kernel) w h (picture 0 stride (now (buf .entry)))) ⌝ }
 {
     col_pass(kernel, buf, strip, stride, w, h);
-    rows(kernel, buf, strip, stride, w / 2, h / 2, levels - 1);
+    rows(kernel, buf, strip, line, stride, w / 2, h / 2, levels - 1);
 }
 
 // The first level's rows, which are placed: each is masked in its two parts.
@@ -137,9 +142,19 @@ pub fn mask_levels(kernel: Kernel, levels: usize, w: usize, h: usize, marks: &mu
 {
     placed_rows(kernel, marks, w, h);
     placed_cols(kernel, marks, w, h);
-    // Below the first level a column has at most 2,048 marks: 16 columns and more have room.
+    // Below the first level a line has at most 2,048 marks: 16 columns and more have room, and the pairs of a row.
     let mut strip = [0u8; 32768];
-    rows(kernel, marks, &mut strip, w, w / 2, h / 2, levels - 1);
+    let mut line = [0u16; 1024];
+    rows(
+        kernel,
+        marks,
+        &mut strip,
+        &mut line,
+        w,
+        w / 2,
+        h / 2,
+        levels - 1,
+    );
 }
 
 // Fills the lent mask of a picture of w by h samples from its region.

@@ -43,7 +43,7 @@ module _ (k : Kernel) (J W H : ℕ) (l : List ℕ) where
 
 -- ---- the mask that a buffer then holds: the region is drawn there, placed
 module _ (J W H : ℕ) (l m₀ : List ℕ) (d : Drawable J W H l (length m₀)) where
-  even : (W % 2 ≡ 0) × (H % 2 ≡ 0) × (H ≤ 4096)
+  even : (W % 2 ≡ 0) × (H % 2 ≡ 0) × (W ≤ 4096) × (H ≤ 4096)
   even = sides-even J W H (d .levels) (d .size)
 
   pub drawable-framed : Framed l W H (length m₀)

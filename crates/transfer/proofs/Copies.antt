@@ -10,12 +10,12 @@ use native.Mathlib.Nat.{add-zero}
 use native.Mathlib.Omega.{arith}
 use borrow.Author.Count.{below-more, below-none}
 use lib.ListN.{length, getD, set, length-set}
-use lib.Seq.{getD-set-same, getD-set-other, ext-getD}
+use lib.Seq.{getD-set-same, getD-set-other}
 use Rattle.transfer.specs.Copied.{Room, Copied}
 
 -- ---- a copy of one cell, and of one after others
 module _ {A : Type 0} {o : A} {x : List A} {from at : ℕ} where
-  pub copied-one : {l : List A} {v : A} → v ≡ getD x from o → at < length l → Copied o x from at 1 l (set l at v)
+  copied-one : {l : List A} {v : A} → v ≡ getD x from o → at < length l → Copied o x from at 1 l (set l at v)
   copied-one {l} {v} e h = record {
     size = length-set l at v;
     on = λ k p.
@@ -60,7 +60,3 @@ module _ {A : Type 0} (o : A) (x : List A) (n : ℕ) {l : List A} where
 
   pub front-cell : {l′ : List A} → Copied o x 0 0 n l l′ → (i : ℕ) → i < n → getD l′ i o ≡ getD x i o
   front-cell {l′} c i h = let e : 0 + i ≡ i = omega arith in rw e at (c .on i h)
-
-  -- all of them
-  pub copied-whole : {l′ : List A} → n ≡ length x → length l ≡ length x → Copied o x 0 0 n l l′ → l′ ≡ x
-  copied-whole {l′} e s c = ext-getD o l′ x (c .size ∙ s) (λ i h. front-cell c i (omega (arith, c .size)))

@@ -6,12 +6,13 @@
 use mathlib.Core.Path.{_≡_, refl, sym, ap, _∙_, fun-ext}
 use mathlib.Core.List.{List}
 use Prim.Native.Nat.{ℕ, _+_, _*_, _-_, _/_, _%_, _<_, _≤_}
-use native.Mathlib.Nat.{mul-one, mul-le-mul-right}
+use native.Mathlib.Nat.{mul-le-mul-right}
 use native.Mathlib.Omega.{arith}
-use borrow.Author.Count.{below-more}
+use borrow.Author.Count.{below-more, below-none}
 use borrow.Author.Tests.{le-ltb}
 use lib.Arith.{digits-lt}
-use lib.ListN.{length, getD, List·getD-eq-default}
+use lib.ListN.{length, getD, set, length-set, List·getD-eq-default}
+use lib.Seq.{getD-set-same, getD-set-other}
 use Rattle.line.proofs.Cells.{by-lt}
 use Rattle.line.specs.Cells.{Line}
 use Rattle.line.specs.Inner.{Agree}
@@ -20,35 +21,52 @@ use Rattle.grid.specs.Buffer.{strided, InBuffer, Put, Lines}
 use Rattle.grid.specs.Placed.{parted, woven, onWoven, placed}
 use Rattle.grid.proofs.Passes.{Local, cell}
 use Rattle.grid.proofs.Parted.{source, source-lt, parted-source, parted-even, parted-odd, woven-local, woven-parted, placed-cell, placed-below, placed-right}
-use Rattle.transfer.specs.Copied.{Room}
-use Rattle.transfer.specs.Moved.{Rows, Moved, Places, Twofold}
-use Rattle.transfer.specs.Parting.{sourceAt, PartedCopy, PartedStrip}
+use Rattle.transfer.specs.Moved.{Rows, Moved}
+use Rattle.transfer.specs.Parting.{sourceAt, Written, Paired, PartedCopy, PartedStrip}
 
--- ---- a row, pair by pair: the evens and the odds of a row of w cells
-module _ {A : Type 0} {x : List A} {from at w : ℕ} {l : List A} where
-  pub row-places : w % 2 ≡ 0 → Room x from at w l → Places (λ k. at + k) (λ k. at + (w - w / 2) + k) (w / 2) l
-  row-places even r = record {
-    first = λ k h. r .target k (omega arith);
-    second = λ k h. let e : at + (w - w / 2 + k) ≡ at + (w - w / 2) + k = omega arith in rw e at (r .target (w - w / 2 + k) (omega arith));
-    apart = λ i k h g e. omega arith;
-    firsts = λ i k h e. omega arith;
-    seconds = λ i k h e. omega arith;
+-- ---- a run of bytes, one after the other
+module _ {F : ℕ → ℕ} {at : ℕ} {l : List ℕ} where
+  pub written-none : Written F at 0 l l
+  written-none = record { size = refl; on = below-none _; below = λ i h. refl; above = λ i h. refl }
+
+  pub written-more : {l′ : List ℕ} {v : ℕ} (k : ℕ) → Written F at k l l′ → at + k < length l → v ≡ F k → Written F at (k + 1) l (set l′ (at + k) v)
+  written-more {l′} {v} k p fits e = record {
+    size = length-set l′ (at + k) v ∙ p .size;
+    on = below-more _ k (λ i h. getD-set-other l′ (at + k) (at + i) v 0 (λ q. omega arith) ∙ p .on i h) (getD-set-same l′ (at + k) v 0 (omega (arith, p .size)) ∙ e);
+    below = λ i h. getD-set-other l′ (at + k) i v 0 (λ q. omega arith) ∙ p .below i h;
+    above = λ i h. getD-set-other l′ (at + k) i v 0 (λ q. omega arith) ∙ p .above i (omega arith);
   }
 
-  pub pair-copied : {o : A} {l′ : List A} → w % 2 ≡ 0
-      → Twofold o (λ k. getD x (from + 2 * k) o) (λ k. getD x (from + 2 * k + 1) o) (λ k. at + k) (λ k. at + (w - w / 2) + k) (w / 2) l l′ → PartedCopy o x from at w l l′
-  pair-copied {o} {l′} even p =
-      let X : Line A = λ i. getD x (from + i) o in record {
-        size = p .size;
-        on = λ n h. by-lt n (w / 2)
-            (λ lt. p .first n lt ∙ sym (parted-even w n X lt))
-            (λ ge. let i : ℕ = n - w / 2 in let e : at + n ≡ at + (w - w / 2) + i = omega arith in let d : w / 2 + i ≡ n = omega arith in
-            ap (λ j. getD l′ j o) e ∙ p .second i (omega arith) ∙ ap (λ j. getD x j o) (omega arith) ∙ sym (parted-odd w i X) ∙ ap (parted w X) d);
-        below = λ i h. p .off i (λ k g e. omega arith) (λ k g e. omega arith);
-        above = λ i h. p .off i (λ k g e. omega arith) (λ k g e. omega arith);
+-- ---- pairs of bytes, one after the other
+module _ {from : ℕ} {x : List ℕ} where
+  pub paired-none : (y : List ℕ) → Paired from 0 x y
+  paired-none y = record { first = below-none _; second = below-none _ }
+
+  pub paired-more : {y : List ℕ} (k : ℕ) → Paired from k x y → k < length y → getD x (from + 2 * k) 0 < 256
+      → Paired from (k + 1) x (set y k (getD x (from + 2 * k) 0 + 256 * getD x (from + 2 * k + 1) 0))
+  paired-more {y} k p fits small =
+      let v : ℕ = getD x (from + 2 * k) 0 + 256 * getD x (from + 2 * k + 1) 0 in
+      let here : getD (set y k v) k 0 ≡ v = getD-set-same y k v 0 fits in
+      let there : (i : ℕ) → i < k → getD (set y k v) i 0 ≡ getD y i 0 = λ i h. getD-set-other y k i v 0 (λ q. omega arith) in record {
+        first = below-more _ k (λ i h. ap (λ z. z % 256) (there i h) ∙ p .first i h) (ap (λ z. z % 256) here ∙ omega arith);
+        second = below-more _ k (λ i h. ap (λ z. z / 256) (there i h) ∙ p .second i h) (ap (λ z. z / 256) here ∙ omega arith);
       }
 
--- ---- a strip: row by row, or a row as a line
+-- ---- a row, parted: the first bytes of its pairs and the second ones
+pub part-copied : {x y l l₁ l₂ : List ℕ} {from at w : ℕ} → w % 2 ≡ 0 → Paired from (w / 2) x y
+    → Written (λ k. getD y k 0 % 256) at (w / 2) l l₁ → Written (λ k. getD y k 0 / 256) (at + (w - w / 2)) (w / 2) l₁ l₂ → PartedCopy 0 x from at w l l₂
+part-copied {x} {y} {l} {l₁} {l₂} {from} {at} {w} even p q r =
+    let X : Line ℕ = λ i. getD x (from + i) 0 in record {
+      size = r .size ∙ q .size;
+      on = λ n h. by-lt n (w / 2)
+          (λ lt. r .below (at + n) (omega arith) ∙ q .on n lt ∙ p .first n lt ∙ sym (parted-even w n X lt))
+          (λ ge. let i : ℕ = n - w / 2 in let e : at + n ≡ at + (w - w / 2) + i = omega arith in let d : w / 2 + i ≡ n = omega arith in
+          ap (λ j. getD l₂ j 0) e ∙ r .on i (omega arith) ∙ p .second i (omega arith) ∙ ap (λ j. getD x j 0) (omega arith) ∙ sym (parted-odd w i X) ∙ ap (parted w X) d);
+      below = λ i h. r .below i (omega arith) ∙ q .below i h;
+      above = λ i h. r .above i (omega arith) ∙ q .above i (omega arith);
+    }
+
+-- ---- a strip, row by row
 pub source-at : (w m n : ℕ) → m ≡ lowSide w → sourceAt m n ≡ source w n
 source-at w m n e = rw e
 
@@ -60,29 +78,12 @@ module _ {A : Type 0} {l : List A} {s t w c : ℕ} (i : InBuffer l s t w c) {x :
     apart = λ r n j p q. digits-lt p q;
   }
 
-  -- lines of cells side by side are rows, if the cells of a line are
-  pub line-room : t ≡ 1 → Room l s 0 w x
-  line-room e =
-      let one : c ≡ 1 = omega (arith, i .some, i .apart) in record {
-        source = λ k p. omega (arith, i .place k 0 p (i .some), ap (λ z. k * z) e, mul-one k);
-        target = λ k p. omega (arith, ap (λ z. w * z) one, mul-one w);
-      }
-
 module _ {A : Type 0} {o : A} {l x x′ : List A} {s t w c : ℕ} where
   pub strip-parted : Moved o l (λ n. s + source w n * t) (λ n. n * c) w c x x′ → PartedStrip o l s t w c x x′
   strip-parted p = record {
     size = p .size;
     on = λ n j h k. p .on n j h k ∙ ap (λ i. getD l i o) (omega arith) ∙ sym (parted-source w n (strided o l (s + j) t));
     above = λ i h. p .off i (λ n j a k e. omega (arith, digits-lt a k));
-  }
-
-  pub row-parted : t ≡ 1 → c ≡ 1 → PartedCopy o l s 0 w x x′ → PartedStrip o l s t w c x x′
-  row-parted d e p = record {
-    size = p .size;
-    on = λ n j h k. rw e
-        (ap (λ i. getD x′ i o) (omega arith) ∙ p .on n h ∙ parted-source w n (λ i. getD l (s + i) o)
-        ∙ ap (λ i. getD l i o) (omega (arith, ap (λ z. source w n * z) d, mul-one (source w n))) ∙ sym (parted-source w n (strided o l (s + j) t)));
-    above = λ i h. p .above i (omega (arith, ap (λ z. w * z) e, mul-one w));
   }
 
 -- ---- lines that are taken parted, transformed there and put back
@@ -99,6 +100,21 @@ lines-back {A} {T} {o} {l} {l′} {x} {x′} {x″} {s} {t} {w} {c} local even p
   off = q .off;
 }
 
+-- a row that is parted in place, and transformed there
+pub row-back : {A : Type 0} {T : Transform A} {o : A} {l l₁ l₂ : List A} {s w : ℕ} → Local T → w % 2 ≡ 0
+    → PartedCopy o l s s w l l₁ → Lines (onWoven T) o s 1 w 1 l₁ l₂ → Lines T o s 1 w 1 l l₂
+row-back {A} {T} {o} {l} {l₁} {l₂} {s} {w} local even p f = record {
+  size = f .size ∙ p .size;
+  on = λ n j h k.
+      let X = strided o l (s + j) 1 in
+      let Y = strided o l₁ (s + j) 1 in
+      let held : Agree w Y (parted w X) = λ i g.
+      ap (λ z. getD l₁ z o) (omega arith) ∙ p .on i g ∙ parted-source w i (λ z. getD l (s + z) o) ∙ ap (λ z. getD l z o) (omega arith) ∙ sym (parted-source w i X) in
+      f .on n j h k ∙ local w (woven w Y) X even (λ i g. woven-local w Y (parted w X) even held i g ∙ woven-parted w X even i g) n h;
+  off = λ i none. f .off i none
+      ∙ by-lt i s (p .below i) (λ ge. by-lt i (s + w) (λ lt. absurd (none (i - s) 0 (omega arith) (omega arith) (omega arith))) (p .above i));
+}
+
 -- ---- a picture, row by row
 pub record Placing {A : Type 0} (o : A) (x : List A) (w h : ℕ) (l l′ : List A) (n : ℕ) : Type 0 where
   pub count : n ≤ h
@@ -110,11 +126,10 @@ module _ {A : Type 0} {o : A} {x : List A} {w h : ℕ} {l : List A} where
   placing-none = record { count = omega arith; size = refl; so-far = λ y k p q. absurd (omega arith) }
 
   pub placing-room : {l′ : List A} {n : ℕ} → h % 2 ≡ 0 → length x ≡ h * w → length l ≡ h * w → Placing o x w h l l′ n → n < h
-      → Room x (source h n * w) (n * w) w l′
-  placing-room {l′} {n} even d e p lt = record {
-    source = λ k q. omega (arith, digits-lt (source-lt h n even lt) q);
-    target = λ k q. omega (arith, digits-lt lt q, p .size);
-  }
+      → (source h n * w + w ≤ length x) × (n * w + w ≤ length l′)
+  placing-room {l′} {n} even d e p lt =
+      let r = source-lt h n even lt in
+      omega (arith, p .size, mul-le-mul-right {m = source h n + 1} {n = h} w (omega arith), mul-le-mul-right {m = n + 1} {n = h} w (omega arith))
 
   pub placing-more : {l′ l″ : List A} {n : ℕ} → Placing o x w h l l′ n → n < h → PartedCopy o x (source h n * w) (n * w) w l′ l″ → Placing o x w h l l″ (n + 1)
   placing-more {l′} {l″} {n} p lt q = record {

@@ -1,6 +1,8 @@
 -- Rows and strips that are copied with their evens in front and their odds behind.
 --
---   sourceAt m n                 == which cell of a line comes to place n, where m cells, the evens, stand in front
+--   sourceAt m n                  == which cell of a line comes to place n, where m cells, the evens, stand in front
+--   Written F at n l l′           == l′ is l with F 0 .. F (n − 1) from place `at` on
+--   Paired from n x y             == the numbers of two bytes y are n pairs of bytes of x, those from `from` on
 --   PartedCopy o x from at w l l′ == l′ is l with w cells of x, those from `from` on, parted, from place `at` on
 --   PartedStrip o l s t w c x x′  == x′ is the strip x with c lines of w cells of l, each parted, cell n of line j at n · c + j;
 --                                    the lines begin at s, s + 1, .., and their cells are t apart
@@ -8,7 +10,7 @@
 -- Assumes nothing: these are definitions.
 use mathlib.Core.Path.{_≡_}
 use mathlib.Core.List.{List}
-use Prim.Native.Nat.{ℕ, _+_, _*_, _-_, _<_, _≤_}
+use Prim.Native.Nat.{ℕ, _+_, _*_, _-_, _/_, _%_, _<_, _≤_}
 use lib.Dec.{ltb}
 use lib.ListN.{length, getD}
 use Rattle.line.specs.Cells.{choose}
@@ -17,6 +19,16 @@ use Rattle.grid.specs.Placed.{parted}
 
 abbrev pub sourceAt : ℕ → ℕ → ℕ
 sourceAt m n = choose (ltb n m) (2 * n) (2 * (n - m) + 1)
+
+pub record Written (F : ℕ → ℕ) (at n : ℕ) (l l′ : List ℕ) : Type 0 where
+  pub size : length l′ ≡ length l
+  pub on : (k : ℕ) → k < n → getD l′ (at + k) 0 ≡ F k
+  pub below : (i : ℕ) → i < at → getD l′ i 0 ≡ getD l i 0
+  pub above : (i : ℕ) → at + n ≤ i → getD l′ i 0 ≡ getD l i 0
+
+pub record Paired (from n : ℕ) (x y : List ℕ) : Type 0 where
+  pub first : (k : ℕ) → k < n → getD y k 0 % 256 ≡ getD x (from + 2 * k) 0
+  pub second : (k : ℕ) → k < n → getD y k 0 / 256 ≡ getD x (from + 2 * k + 1) 0
 
 pub record PartedCopy {A : Type 0} (o : A) (x : List A) (from at w : ℕ) (l l′ : List A) : Type 0 where
   pub size : length l′ ≡ length l

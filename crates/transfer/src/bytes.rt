@@ -1,12 +1,12 @@
-// Rows, strips and pictures of bytes that are copied, with their evens in front and their odds behind or as they are.
+// Bytes that are copied: runs, rows with their evens in front and their odds behind, pictures of such rows, and strips of columns.
 ghost use mathlib.Core.Path.{_≡_};
-ghost use Prim.Native.Nat.{_*_, _%_, _≤_};
-ghost use lib.ListN.{length};
+ghost use Prim.Native.Nat.{_+_, _*_, _/_, _%_, _<_, _≤_};
+ghost use lib.ListN.{length, getD};
 ghost use Rattle.grid.specs.Picture.{picture};
 ghost use Rattle.grid.specs.Buffer.{InBuffer, Put};
 ghost use Rattle.grid.specs.Placed.{placed};
 ghost use Rattle.transfer.specs.Copied.{Room, Copied};
-ghost use Rattle.transfer.specs.Parting.{sourceAt, PartedCopy, PartedStrip};
+ghost use Rattle.transfer.specs.Parting.{sourceAt, Written, Paired, PartedCopy, PartedStrip};
 
 // Copies n bytes of src, from `from` on, to dst, from `at` on.
 pub fn copy(src: &[u8], dst: &mut [u8], from: usize, at: usize, n: usize)
@@ -18,17 +18,56 @@ pub fn copy(src: &[u8], dst: &mut [u8], from: usize, at: usize, n: usize)
     }
 }
 
+// Takes n pairs of bytes, from `from` on, as numbers of two bytes: a pair is then one number to the machine, and bytes two apart are not.
+fn pair_up(src: &[u8], line: &mut [u16], from: usize, n: usize)
+    requires { ⌜ (from + 2 * n ≤ length (now src)) × (n ≤ length (now line)) ⌝ }
+    ensures { λ _. ⌜ Paired from n (now (src .entry)) (now (line .exit)) ⌝ }
+{
+    for k in 0..n {
+        line[k] = src[from + 2 * k] as u16 + 256 * (src[from + 2 * k + 1] as u16);
+    }
+}
+
+// The first bytes of n pairs.
+fn firsts(line: &[u16], dst: &mut [u8], at: usize, n: usize)
+    requires { ⌜ (n ≤ length (now line)) × (at + n ≤ length (now dst)) ⌝ }
+    ensures { λ _. ⌜ Written (λ k. getD (now (line .entry)) k 0 % 256) at n (now (dst .entry)) (now (dst .exit)) ⌝ }
+{
+    for k in 0..n {
+        dst[at + k] = (line[k] % 256) as u8;
+    }
+}
+
+// The second bytes.
+fn seconds(line: &[u16], dst: &mut [u8], at: usize, n: usize)
+    requires { ⌜ (n ≤ length (now line)) × (at + n ≤ length (now dst)) ⌝ }
+    ensures { λ _. ⌜ Written (λ k. getD (now (line .entry)) k 0 / 256) at n (now (dst .entry)) (now (dst .exit)) ⌝ }
+{
+    for k in 0..n {
+        dst[at + k] = (line[k] / 256) as u8;
+    }
+}
+
 // Copies a row of w bytes, its evens to the front and its odds behind them.
-fn part(src: &[u8], dst: &mut [u8], from: usize, at: usize, w: usize)
-    requires { ⌜ Room (now src) from at w (now dst) ⌝ }
-    requires { ⌜ w % 2 ≡ 0 ⌝ }
+fn part(src: &[u8], dst: &mut [u8], line: &mut [u16], from: usize, at: usize, w: usize)
+    requires { ⌜ (from + w ≤ length (now src)) × (at + w ≤ length (now dst)) ⌝ }
+    requires { ⌜ (w % 2 ≡ 0) × (w / 2 ≤ length (now line)) ⌝ }
     ensures { λ _. ⌜ PartedCopy 0 (now (src .entry)) from at w (now (dst .entry)) (now (dst .exit)) ⌝ }
 {
-    let low = w - w / 2;
-    for k in 0..w / 2 {
-        dst[at + k] = src[from + 2 * k];
-        dst[at + low + k] = src[from + 2 * k + 1];
-    }
+    pair_up(src, line, from, w / 2);
+    firsts(line, dst, at, w / 2);
+    seconds(line, dst, at + (w - w / 2), w / 2);
+}
+
+// The same in place.
+pub fn part_row(buf: &mut [u8], line: &mut [u16], at: usize, w: usize)
+    requires { ⌜ at + w ≤ length (now buf) ⌝ }
+    requires { ⌜ (w % 2 ≡ 0) × (w / 2 ≤ length (now line)) ⌝ }
+    ensures { λ _. ⌜ PartedCopy 0 (now (buf .entry)) at at w (now (buf .entry)) (now (buf .exit)) ⌝ }
+{
+    pair_up(buf, line, at, w / 2);
+    firsts(line, buf, at, w / 2);
+    seconds(line, buf, at + (w - w / 2), w / 2);
 }
 
 // Which row comes to place n, where `low` rows, the evens, stand in front.
@@ -41,25 +80,14 @@ fn source(n: usize, low: usize) -> usize
 
 // Copies a picture of w by h bytes, each byte to the place where its coefficient of the first level ends.
 pub fn place(src: &[u8], dst: &mut [u8], w: usize, h: usize)
-    requires { ⌜ (w % 2 ≡ 0) × (h % 2 ≡ 0) × (h ≤ 4096) ⌝ }
+    requires { ⌜ (w % 2 ≡ 0) × (h % 2 ≡ 0) × (w ≤ 4096) × (h ≤ 4096) ⌝ }
     requires { ⌜ (length (now src) ≡ h * w) × (length (now dst) ≡ h * w) ⌝ }
     ensures { λ _. ⌜ picture 0 w (now (dst .exit)) ≡ placed w h (picture 0 w (now (src .entry))) ⌝ }
 {
+    let mut line = [0u16; 2048];
     let low = h - h / 2;
     for n in 0..h {
-        part(src, dst, source(n, low) * w, n * w, w);
-    }
-}
-
-// Byte n of every line at once, for each n.
-fn take_rows(buf: &[u8], strip: &mut [u8], start: usize, step: usize, w: usize, lanes: usize)
-    requires { ⌜ InBuffer (now buf) start step w lanes ⌝ }
-    requires { ⌜ (w % 2 ≡ 0) × (w ≤ 4096) × (w * lanes ≤ length (now strip)) ⌝ }
-    ensures { λ _. ⌜ PartedStrip 0 (now (buf .entry)) start step w lanes (now (strip .entry)) (now (strip .exit)) ⌝ }
-{
-    let low = w - w / 2;
-    for n in 0..w {
-        copy(buf, strip, start + source(n, low) * step, n * lanes, lanes);
+        part(src, dst, &mut line, source(n, low) * w, n * w, w);
     }
 }
 
@@ -70,21 +98,9 @@ pub fn take(buf: &[u8], strip: &mut [u8], start: usize, step: usize, w: usize, l
     requires { ⌜ (w % 2 ≡ 0) × (w ≤ 4096) × (w * lanes ≤ length (now strip)) ⌝ }
     ensures { λ _. ⌜ PartedStrip 0 (now (buf .entry)) start step w lanes (now (strip .entry)) (now (strip .exit)) ⌝ }
 {
-    if step == 1 {
-        part(buf, strip, start, 0, w);
-        return;
-    }
-    take_rows(buf, strip, start, step, w, lanes);
-}
-
-// Byte n of every line at once, for each n.
-fn put_rows(strip: &[u8], buf: &mut [u8], start: usize, step: usize, m: usize, lanes: usize)
-    requires { ⌜ InBuffer (now buf) start step m lanes ⌝ }
-    requires { ⌜ m * lanes ≤ length (now strip) ⌝ }
-    ensures { λ _. ⌜ Put 0 (now (strip .entry)) start step m lanes (now (buf .entry)) (now (buf .exit)) ⌝ }
-{
-    for n in 0..m {
-        copy(strip, buf, n * lanes, start + n * step, lanes);
+    let low = w - w / 2;
+    for n in 0..w {
+        copy(buf, strip, start + source(n, low) * step, n * lanes, lanes);
     }
 }
 
@@ -94,9 +110,7 @@ pub fn put(strip: &[u8], buf: &mut [u8], start: usize, step: usize, m: usize, la
     requires { ⌜ m * lanes ≤ length (now strip) ⌝ }
     ensures { λ _. ⌜ Put 0 (now (strip .entry)) start step m lanes (now (buf .entry)) (now (buf .exit)) ⌝ }
 {
-    if step == lanes {
-        copy(strip, buf, 0, start, m * lanes);
-        return;
+    for n in 0..m {
+        copy(strip, buf, n * lanes, start + n * step, lanes);
     }
-    put_rows(strip, buf, start, step, m, lanes);
 }

@@ -26,10 +26,11 @@ mask-levels-spec =
     (λ c κs. whole (c .before .before))
     (λ c κs. after-rows (c .before .before .before))
     (λ c. search needs)
-    (λ c. omega (arith, c .before .before .before .before .before .before .before .before .before .before .before .pre .levels))
-    (λ c κs. let s = c .before .before .before .before .before .before .before .before .before .before .before in let n = length-replicate {A = ℕ} 32768 0 in
-    (low-area (s .args .levels) _ _ _ (s .pre) _ _ (after-cols (c .before .before .before .before)) (omega arith), region-more _ _ _ _ (s .pre) .2))
     (λ c. search needs)
-    (λ c. let s = c .before .before .before .before .before .before .before .before .before .before .before .before .before .before .before in
-    mask-result (s .args .levels) _ _ _ (s .pre) (s .args .kernel) _ _ _ (c .before .before .before .rows .kept .1 .0 ∙ c .before .before .before .before .before .before .before .before .placed-cols .kept .1 .0 ∙ c .before .before .before .before .before .before .before .before .before .before .before .before .placed-rows .kept .1 .0)
-    (c .before .before .before .before .before .before .before .before .before .before .before .before .placed-rows .ensures) (c .before .before .before .before .before .before .before .before .placed-cols .ensures) (c .before .before .before .rows .ensures)))
+    (λ c. omega (arith, c .before .before .before .before .before .before .before .before .before .before .before .before .pre .levels))
+    (λ c κs. let s = c .before .before .before .before .before .before .before .before .before .before .before .before in let n = length-replicate {A = ℕ} 32768 0 in let m = length-replicate {A = ℕ} 1024 0 in
+    (low-area (s .args .levels) _ _ _ (s .pre) _ (after-cols (c .before .before .before .before .before)), (region-more _ _ _ _ (s .pre) .2, omega arith, omega arith)))
+    (λ c. search needs)
+    (λ c. let s = c .before .before .before .before .before .before .before .before .before .before .before .before .before .before .before .before .before in
+    mask-result (s .args .levels) _ _ _ (s .pre) (s .args .kernel) _ _ _ (c .before .before .before .before .rows .kept .1 .0 ∙ c .before .before .before .before .before .before .before .before .before .before .placed-cols .kept .1 .0 ∙ c .before .before .before .before .before .before .before .before .before .before .before .before .before .before .placed-rows .kept .1 .0)
+    (c .before .before .before .before .before .before .before .before .before .before .before .before .before .before .placed-rows .ensures) (c .before .before .before .before .before .before .before .before .before .before .placed-cols .ensures) (c .before .before .before .before .rows .ensures)))

@@ -1,33 +1,53 @@
 -- `picture_mask::row_pass` masks the rows of an area. Assumes nothing.
 use mathlib.Core.Path.{_≡_, refl, _∙_}
-use Prim.Native.Nat.{_-_}
+use Prim.Native.Nat.{_+_, _*_, _-_, _/_, _≤_}
 use native.Mathlib.Omega.{arith}
 use lib.ListN.{length}
-use Rattle.picture_mask.specs.Areas.{maskLineBytes}
+use Rattle.transfer.proofs.Parting.{row-back}
+use Rattle.line_mask.specs.Marks.{Parts}
+use Rattle.picture_mask.specs.Areas.{Area, maskLineBytes}
 use Rattle.picture_mask.proofs.Local.{bytes-local}
-use Rattle.picture_mask.proofs.Running.{RowsMasked, rows-none, rows-more, row-strip, row-in, rows-now}
+use Rattle.picture_mask.proofs.Taking.{masked-lines}
+use Rattle.picture_mask.proofs.Running.{RowsMasked, rows-none, rows-more, row-in, parted-parts, rows-now}
 use Rattle.picture_mask.proofs.row_pass.Statement.{statement}
 use Rattle.picture_mask.proofs.row_pass.Tie as tie
 
 abbrev Inv-loop : tie.InvT-loop
-Inv-loop kernel buf₀ strip₀ stride w h y₀ buf strip y = RowsMasked (maskLineBytes kernel) stride w h y buf₀ buf × (length strip ≡ length strip₀)
+Inv-loop kernel buf₀ line₀ stride w h low y₀ buf line y = RowsMasked (maskLineBytes kernel) stride w h y buf₀ buf × (length line ≡ length line₀)
 
 abbrev μ-loop : tie.MeasureT-loop
-μ-loop kernel buf₀ strip₀ stride w h y₀ buf strip y = h - y
+μ-loop kernel buf₀ line₀ stride w h low y₀ buf line y = h - y
+
+-- the area, and the row that is masked next: in the buffer, and in its two parts once it is parted
+area : (c : tie.In-loop Inv-loop μ-loop) → let a = c .before .before .before .before .args in Area (a .stride) (a .w) (a .h) (c .before .loop .buf)
+area c = let s = c .before .before .before .before in rows-now (s .args .kernel) (s .pre .0) (c .before .loop .inv .0)
+
+row : (c : tie.In-loop Inv-loop μ-loop) → let a = c .before .before .before .before .args in let l = c .before .loop in l .y * a .stride + a .w ≤ length (l .buf)
+row c = row-in (area c) (c .before .loop .y) (omega arith)
+
+parts : (c : tie.After-part-row Inv-loop μ-loop) → let a = c .before .before .before .before .before .before .before .args in let y = c .before .before .before .before .loop .y in
+    Parts (y * a .stride) (y * a .stride + (a .w - a .w / 2)) 1 (a .w / 2) (c .part-row .last .0)
+parts c = let s = c .before .before .before .before .before .before .before in parted-parts (area (c .before .before .before)) (c .before .before .before .before .loop .y) (s .args .w - s .args .w / 2) (omega arith) (s .pre .1 .0) (omega (arith, s .pre .1 .0)) (c .part-row .ensures)
 
 pub row-pass-spec : {M : Type 1} → statement M
 row-pass-spec =
     tie.close (tie.spec
     Inv-loop
     μ-loop
+    (λ c. omega arith)
     (λ c. (rows-none, refl))
-    (λ c. let z = c .before .before .before .before .before .before .pre .0 in omega (arith, row-in z (c .before .before .before .loop .y) (omega arith) .place 0 0 (z .some-w) (omega arith)))
-    (λ c κs. let s = c .before .before .before .before .before .before in let l = c .before .before .before .loop in let z = rows-now (s .args .kernel) (s .pre .0) (l .inv .1) (l .inv .0) in
-    (row-in z (l .y) (omega arith), (row-strip z (s .pre .1), z .marks)))
+    (λ c. omega (arith, row c))
+    (λ c κs. let s = c .before .before .before .before .before .before in (row (c .before .before), (s .pre .1 .0, omega (arith, s .pre .1 .1, s .pre .0 .w-most, c .before .before .before .loop .inv .1))))
+    (λ c. omega (arith, row (c .before .before .before .before .before .before .before .before)))
+    (λ c κs. parts (c .before .before .before .before .before))
     (λ c. omega arith)
     (λ c. omega arith)
-    (λ c. let s = c .before .before .before .before .before .before .before .before .before .before .before in let l = c .before .before .before .before .before .before .before .before .loop in let r = c .before .before .before .before .lines in
-    (rows-more (bytes-local (s .args .kernel)) (s .pre .0 .wide) (s .pre .1) (l .inv .0) (omega arith) (r .ensures), r .kept .1 .1 .0 ∙ l .inv .1))
+    (λ c. let s = c .before .before .before .before .before .before .before .before .before .before .before .before .before .before .before in let a = s .args in let l = c .before .before .before .before .before .before .before .before .before .before .before .before .loop in let p = c .before .before .before .before .before .before .before .before .part-row in (
+      rows-more (bytes-local (a .kernel)) (s .pre .0 .wide) (s .pre .1 .0) (l .inv .0) (omega arith)
+          (row-back (bytes-local (a .kernel)) (s .pre .1 .0) (p .ensures)
+          (masked-lines (l .y * a .stride) (l .y * a .stride + (a .w - a .w / 2)) 1 (a .w) _ (s .pre .1 .0) (omega (arith, s .pre .1 .0)) (a .kernel) _ (c .before .before .mask .ensures))),
+      p .kept .1 .0 ∙ l .inv .1,
+    ))
     (λ c. c .before .loop .inv .0 .same)
     (λ c. c .before .loop .inv .1)
     (λ c. let l = c .before .loop in let e : l .y ≡ c .before .before .before .before .args .h = omega (arith, l .inv .0 .count) in rw e at (l .inv .0 .passed)))

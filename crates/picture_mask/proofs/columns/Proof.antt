@@ -1,4 +1,4 @@
--- `picture_mask::lines` masks lines in place, through working memory. Assumes nothing.
+-- `picture_mask::columns` masks columns through working memory. Assumes nothing.
 use mathlib.Core.Path.{_≡_, _∙_}
 use Prim.Native.Nat.{_+_, _*_, _-_, _/_}
 use native.Mathlib.Omega.{arith}
@@ -7,8 +7,8 @@ use Rattle.transfer.proofs.Parting.{lines-back}
 use Rattle.line_mask.specs.Marks.{Parts}
 use Rattle.picture_mask.proofs.Local.{bytes-local}
 use Rattle.picture_mask.proofs.Taking.{parts-of, masked-lines, bytes-taken}
-use Rattle.picture_mask.proofs.lines.Statement.{statement}
-use Rattle.picture_mask.proofs.lines.Tie as tie
+use Rattle.picture_mask.proofs.columns.Statement.{statement}
+use Rattle.picture_mask.proofs.columns.Tie as tie
 
 -- where the odds of all lines begin
 half : (s : tie.Start) → let a = s .args in (a .n - a .n / 2) * a .lanes ≡ 0 + a .n / 2 * a .lanes
@@ -18,8 +18,8 @@ parts : (c : tie.After-mask-arg) → let a = c .before .before .before .before .
 parts c = let s = c .before .before .before .before .before .before .before .before in let a = s .args in let t = c .before .before .before .take .ensures in let x = s .pre .1 .0 in
     parts-of 0 ((a .n - a .n / 2) * a .lanes) (a .lanes) (a .n) _ (x .even) (half s) (x .some) (omega (arith, t .size, x .room)) (bytes-taken t (s .pre .0 .some) (s .pre .1 .1))
 
-pub lines-spec : {M : Type 1} → statement M
-lines-spec =
+pub columns-spec : {M : Type 1} → statement M
+columns-spec =
     tie.close (tie.spec
     (λ c. search needs)
     (λ c κs. let s = c .before .before .before .before in let x = s .pre .1 .0 in (s .pre .0, (x .even, x .few, x .room)))

@@ -1,0 +1,47 @@
+-- `transfer::bytes::pair_up` takes pairs of bytes. The loop's invariant: k pairs are taken. Assumes nothing.
+use mathlib.Core.Path.{_≡_, refl}
+use Prim.Native.Nat.{_+_, _*_, _-_, _<_, _≤_}
+use native.Mathlib.Omega.{arith}
+use lib.ListN.{length, length-set, getD}
+use mathlib.Core.Path.{_∙_}
+use Rattle.transfer.specs.Parting.{Paired}
+use Rattle.transfer.proofs.Parting.{paired-none, paired-more}
+use Rattle.transfer.proofs.bytes.pair_up.Statement.{statement}
+use Rattle.transfer.proofs.bytes.pair_up.Tie as tie
+
+abbrev Inv-loop : tie.InvT-loop
+Inv-loop src line₀ from n k₀ line k = (k ≤ n) × (length line ≡ length line₀) × Paired from k src line
+
+abbrev μ-loop : tie.MeasureT-loop
+μ-loop src line₀ from n k₀ line k = n - k
+
+-- what is read are bytes
+small : (c : tie.After-shared-slice-known2 Inv-loop μ-loop) → let a = c .before .before .before .before .args in let l = c .before .before .before .loop in
+    (getD (a .src .now) (a .from + 2 * l .k) 0 < 256) × (getD (a .src .now) (a .from + 2 * l .k + 1) 0 < 256)
+small c = let a = c .before .before .before .before .args in let l = c .before .before .before .loop in
+    omega (arith, c .shared-slice-known2 .given (a .from + 2 * l .k), c .shared-slice-known2 .given (a .from + 2 * l .k + 1))
+
+pub pair-up-spec : {M : Type 1} → statement M
+pair-up-spec =
+    tie.close (tie.spec
+    Inv-loop
+    μ-loop
+    (λ c. (omega arith, refl, paired-none _))
+    (λ c. omega arith)
+    (λ c. omega arith)
+    (λ c. omega arith)
+    (λ c. omega (arith, c .shared-slice-known .given (c .before .before .before .args .from + 2 * c .before .before .loop .k)))
+    (λ c. omega arith)
+    (λ c. omega arith)
+    (λ c. omega arith)
+    (λ c. omega arith)
+    (λ c. omega (arith, small c))
+    (λ c. omega (arith, small c))
+    (λ c. omega (arith, small c))
+    (λ c. omega (arith, small c))
+    (λ c. omega arith)
+    (λ c. omega arith)
+    (λ c. omega arith)
+    (λ c. let l = c .before .before .before .loop in (omega arith, length-set (l .line) _ _ ∙ l .inv .1, paired-more (l .k) (l .inv .2) (omega arith) (small c .0)))
+    (λ c. c .before .loop .inv .1)
+    (λ c. let l = c .before .loop in let e : l .k ≡ c .before .before .args .n = omega arith in rw e at (l .inv .2)))
