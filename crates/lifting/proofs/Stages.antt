@@ -20,7 +20,7 @@ use Rattle.kernel.specs.declared.Kernel.the-variants as kernel
 use Rattle.line.specs.Cells.{Line, cell, evens, paired}
 use Rattle.line.specs.Formulas.{mean, difference, firstOf, secondOf}
 use Rattle.line.specs.Inner.{AllWithin, Agree}
-use Rattle.line.specs.Transform.{means, differences, predict, pairHigh, low, high, undoneEvens, undoneOdds}
+use Rattle.line.specs.Transform.{inside, means, differences, predict, pairHigh, low, high, undoneEvens, undoneOdds}
 use Rattle.line.proofs.Back.{add-none, sub-none}
 use Rattle.line.proofs.Bounds.{mean-within, difference-within, add-within, sub-within, first-within, second-within, within-more, predict-within, update-within}
 use Rattle.line.proofs.Cells.{by-lt, paired-even, paired-odd}
@@ -31,7 +31,7 @@ use Rattle.runs.specs.declared.Step.{Step}
 use Rattle.runs.specs.declared.Step.the-variants.{SPlusP, TT, WideTT, High, Low}
 use Rattle.lifting.specs.Parts.{lane, Parts, Bounded, Both}
 use Rattle.lifting.specs.Steps.{amount, movedRow, EndToEnd, Fit, Lifted}
-use Rattle.lifting.specs.Lines.{pairFirst, pairSecond, firsts, seconds, PairFit, Pairable, predicted, again, lowsOf, highsOf}
+use Rattle.lifting.specs.Lines.{pairFirst, pairSecond, firsts, seconds, PairFit, Pairable, predicted, again, begunFirst, begunSecond, endedFirst, endedSecond, lowsOf, highsOf}
 use Rattle.lifting.proofs.Rows.{row-place, row-in, line-in, run-place, same-row, parts-swap, parts-as, rows-other}
 use Rattle.lifting.proofs.Lifts.{amount-local}
 
@@ -248,3 +248,70 @@ module _ {a b t c m : ℕ} {l l′ : List ℤ} where
     pub back-five-three : Lifted Low false m c 0 m a b t l l′ → Lifted High true m c 0 m b a t l′ l″ → Both (undoneEvens kernel.FiveThree m) (undoneOdds kernel.FiveThree m) a b t c 0 m l l″
     unfolding undoneEvens undoneOdds
     back-five-three f h = both-as (λ A B n k. refl) (λ A B n k. refl) (both-then first-local (moves-second-local High true) (step-first g f) (step-second (parts-as g (f .rows .size)) h))
+
+-- ---- the way back in two steps
+pub ended-first : (k : Kernel) (M : ℕ) (A B : Line ℤ) → Agree M (endedFirst k (begunFirst k M A B) (begunSecond k M A B)) (undoneEvens k M A B)
+unfolding undoneEvens
+ended-first kernel.S M A B n h = ap (firstOf (A n)) (sym (add-none M A n (B n)))
+ended-first kernel.SPlusP M A B n h = refl
+ended-first kernel.TT M A B n h = refl
+ended-first kernel.FiveThree M A B n h = refl
+
+pub ended-second : (k : Kernel) (M : ℕ) (A B : Line ℤ) → Agree M (endedSecond k M (begunFirst k M A B) (begunSecond k M A B)) (undoneOdds k M A B)
+unfolding undoneEvens undoneOdds
+ended-second kernel.S M A B n h = ap (secondOf (A n)) (sym (add-none M A n (B n)))
+ended-second kernel.SPlusP M A B n h = refl
+ended-second kernel.TT M A B n h = refl
+ended-second kernel.FiveThree M A B n h = refl
+
+behind-inside : (M n : ℕ) → n < M → n + inside (M - n) (0 + 1) 0 ≡ inside M (n + 1) 0
+unfolding inside
+behind-inside M n h = omega arith
+
+-- the last step looks at the rows behind alone: of the first of M − n rows it is that of row n of M
+pub ended-behind : (k : Kernel) (M n : ℕ) (A B : Line ℤ) → n < M → endedSecond k (M - n) (λ i. A (n + i)) (λ i. B (n + i)) 0 ≡ endedSecond k M A B n
+unfolding predict
+ended-behind kernel.S M n A B h = let e : n + 0 ≡ n = omega arith in rw e
+ended-behind kernel.SPlusP M n A B h = let e : n + 0 ≡ n = omega arith in rw e
+ended-behind kernel.TT M n A B h = let e : n + 0 ≡ n = omega arith in rw e
+ended-behind kernel.FiveThree M n A B h =
+    let e : n + 0 ≡ n = omega arith in
+    let d : n + inside (M - n) (0 + 1) 0 ≡ inside M (n + 1) 0 = behind-inside M n h in rw (e, d)
+
+pub row-second : {s : Step} {add : Bool} {a b t c m : ℕ} {l l′ : List ℤ} (e : ℕ) → e ≤ m → Parts a b t m c (length l) → Lifted s add m c 0 e b a t l l′
+    → Both (λ A B. A) (λ A B n. moved add (B n) (amount s m A n)) a b t c 0 e l l′
+row-second e le g f = record {
+  size = f .rows .size;
+  first = λ n j o h k. rows-other 0 e (parts-swap g) le (f .rows) n j (omega arith) k;
+  second = f .rows .on;
+  off = λ i x y. f .rows .off i y;
+}
+
+pub both-none : (a b t c m : ℕ) (l : List ℤ) → Both (λ A B. A) (λ A B. B) a b t c 0 m l l
+both-none a b t c m l = record { size = refl; first = λ n j o h k. refl; second = λ n j o h k. refl; off = λ i x y. refl }
+
+pub ended-first-local : (k : Kernel) {M : ℕ} → Local M (endedFirst k)
+ended-first-local kernel.S A A′ B B′ x y n h = ap₂ firstOf (x n h) (y n h)
+ended-first-local kernel.SPlusP A A′ B B′ x y n h = ap₂ firstOf (x n h) (y n h)
+ended-first-local kernel.TT A A′ B B′ x y n h = ap₂ firstOf (x n h) (y n h)
+ended-first-local kernel.FiveThree A A′ B B′ x y n h = x n h
+
+pub ended-second-local : (k : Kernel) {M : ℕ} → Local M (endedSecond k M)
+ended-second-local kernel.S A A′ B B′ x y n h = ap₂ secondOf (x n h) (y n h)
+ended-second-local kernel.SPlusP A A′ B B′ x y n h = ap₂ secondOf (x n h) (y n h)
+ended-second-local kernel.TT A A′ B B′ x y n h = ap₂ secondOf (x n h) (y n h)
+ended-second-local kernel.FiveThree {M} A A′ B B′ x y n h = ap₂ _+ℤ_ (y n h) (predict-reach kernel.FiveThree M n A A′ h (λ i lt p q. x i lt))
+
+-- what the first step leaves is what the last one takes
+module _ (M : ℕ) (A B : Line ℤ) (x : AllWithin (2 ^ 28) M A) (y : AllWithin (2 ^ 24) M B) where
+  pub begun-first : (k : Kernel) → AllWithin (2 ^ 29) M (begunFirst k M A B)
+  begun-first kernel.S n h = within-more (x n h) (omega arith)
+  begun-first kernel.SPlusP n h = within-more (x n h) (omega arith)
+  begun-first kernel.TT n h = within-more (x n h) (omega arith)
+  begun-first kernel.FiveThree n h = within-more (sub-within (2 ^ 28) _ _ _ (x n h) (update-within M (2 ^ 24) B y n h)) (omega arith)
+
+  pub begun-second : (k : Kernel) → AllWithin (2 ^ 29) M (begunSecond k M A B)
+  begun-second kernel.S n h = within-more (y n h) (omega arith)
+  begun-second kernel.SPlusP n h = within-more (add-within (2 ^ 24) _ _ _ (y n h) (predict-within kernel.SPlusP M (2 ^ 28) A x n h)) (omega arith)
+  begun-second kernel.TT n h = within-more (add-within (2 ^ 24) _ _ _ (y n h) (predict-within kernel.TT M (2 ^ 28) A x n h)) (omega arith)
+  begun-second kernel.FiveThree n h = within-more (y n h) (omega arith)

@@ -8,6 +8,10 @@
 --   Pairable join .. l    == that for the rows d up to e of the parts at a and b
 --   predicted s M A B     == the differences, less the amounts of step s from the means
 --   again s M A B         == the highs B, with the amounts of step s from the lows A
+--   begunFirst k M A B    == the way back, its first step done: the first part, from the lows A and the highs B
+--   begunSecond k M A B   == the second part
+--   endedFirst k A B      == its last step: the evens, from the parts A and B that the first step leaves
+--   endedSecond k M A B   == the odds
 --   lowsOf k M A B        == kernel k's lows of the line with these evens and odds
 --   highsOf k M A B       == its highs
 --
@@ -20,10 +24,12 @@ use mir.Syntax.{w32}
 use mir.Val.{SFits}
 use Rattle.whole.specs.Within.{Within}
 use Rattle.kernel.specs.declared.Kernel.{Kernel}
+use Rattle.kernel.specs.declared.Kernel.the-variants.{S, SPlusP, TT, FiveThree}
 use Rattle.line.specs.Cells.{Line, paired}
 use Rattle.line.specs.Formulas.{mean, difference, firstOf, secondOf}
-use Rattle.line.specs.Transform.{low, high}
+use Rattle.line.specs.Transform.{predict, update, low, high}
 use Rattle.runs.specs.declared.Step.{Step}
+use Rattle.runs.specs.declared.Step.the-variants as step
 use Rattle.lifting.specs.Parts.{lane}
 use Rattle.lifting.specs.Steps.{amount}
 
@@ -53,6 +59,30 @@ predicted s M A B n = difference (A n) (B n) -ℤ amount s M (firsts false A B) 
 
 abbrev pub again : Step → ℕ → Line ℤ → Line ℤ → Line ℤ
 again s M A B n = B n +ℤ amount s M A n
+
+abbrev pub begunFirst : Kernel → ℕ → Line ℤ → Line ℤ → Line ℤ
+begunFirst S M A B = A
+begunFirst SPlusP M A B = A
+begunFirst TT M A B = A
+begunFirst FiveThree M A B = λ n. A n -ℤ update M B n
+
+abbrev pub begunSecond : Kernel → ℕ → Line ℤ → Line ℤ → Line ℤ
+begunSecond S M A B = B
+begunSecond SPlusP M A B = again step.SPlusP M A B
+begunSecond TT M A B = again step.WideTT M A B
+begunSecond FiveThree M A B = B
+
+abbrev pub endedFirst : Kernel → Line ℤ → Line ℤ → Line ℤ
+endedFirst S A B = firsts true A B
+endedFirst SPlusP A B = firsts true A B
+endedFirst TT A B = firsts true A B
+endedFirst FiveThree A B = A
+
+abbrev pub endedSecond : Kernel → ℕ → Line ℤ → Line ℤ → Line ℤ
+endedSecond S M A B = seconds true A B
+endedSecond SPlusP M A B = seconds true A B
+endedSecond TT M A B = seconds true A B
+endedSecond FiveThree M A B = λ n. B n +ℤ predict FiveThree M A n
 
 abbrev pub lowsOf : Kernel → ℕ → Line ℤ → Line ℤ → Line ℤ
 lowsOf k M A B = low k M (paired A B)

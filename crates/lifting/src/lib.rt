@@ -8,7 +8,7 @@ ghost use Rattle.line.specs.Transform as line;
 ghost use Rattle.runs.specs.Steps.{tapBound};
 ghost use Rattle.lifting.specs.Parts.{In, Parts, Bounded, Both};
 ghost use Rattle.lifting.specs.Steps.{lookBack, lookAhead, tapsOf, Straight, EndToEnd, Fit, Lifted};
-ghost use Rattle.lifting.specs.Lines.{firsts, seconds, Pairable, predicted, again, lowsOf, highsOf};
+ghost use Rattle.lifting.specs.Lines.{firsts, seconds, Pairable, predicted, again, begunFirst, begunSecond, endedFirst, endedSecond, lowsOf, highsOf};
 use kernel::Kernel;
 use runs::Step;
 use runs::Taps;
@@ -306,5 +306,51 @@ pub fn back(kernel: Kernel, l: &mut [i32], a: usize, b: usize, step: usize, m: u
         Kernel::SPlusP => back_pairs(Step::SPlusP, l, a, b, step, m, lanes),
         Kernel::TT => back_pairs(Step::WideTT, l, a, b, step, m, lanes),
         Kernel::FiveThree => back_five_three(l, a, b, step, m, lanes),
+    }
+}
+
+// The first step of the way back, on all rows: what kernels 1 and 2 predict is added to the highs, what kernel 3 adds to the evens is taken off.
+pub fn begin_back(
+    kernel: Kernel,
+    l: &mut [i32],
+    a: usize,
+    b: usize,
+    step: usize,
+    m: usize,
+    lanes: usize,
+)
+    requires { ⌜ Parts a b step m lanes (length (now l)) ⌝ }
+    requires { ⌜ Bounded (2 ^ 28) a step m lanes (now l) ⌝ }
+    requires { ⌜ Bounded (2 ^ 24) b step m lanes (now l) ⌝ }
+    ensures { λ _. ⌜ Both (begunFirst kernel m) (begunSecond kernel m) a b step lanes 0 m (now (l .entry)) (now (l .exit)) ⌝ }
+{
+    match kernel {
+        Kernel::S => {}
+        Kernel::SPlusP => lift(Step::SPlusP, l, b, a, step, m, lanes, true),
+        Kernel::TT => lift(Step::WideTT, l, b, a, step, m, lanes, true),
+        Kernel::FiveThree => lift(Step::Low, l, a, b, step, m, lanes, false),
+    }
+}
+
+// The last step of the way back, on the first row: it looks at the rows behind alone.
+pub fn end_back(
+    kernel: Kernel,
+    l: &mut [i32],
+    a: usize,
+    b: usize,
+    step: usize,
+    m: usize,
+    lanes: usize,
+)
+    requires { ⌜ Parts a b step m lanes (length (now l)) ⌝ }
+    requires { ⌜ Bounded (2 ^ 29) a step m lanes (now l) ⌝ }
+    requires { ⌜ Bounded (2 ^ 29) b step m lanes (now l) ⌝ }
+    ensures { λ _. ⌜ Both (endedFirst kernel) (endedSecond kernel m) a b step lanes 0 1 (now (l .entry)) (now (l .exit)) ⌝ }
+{
+    match kernel {
+        Kernel::S => pair_rows(l, a, b, step, m, lanes, 0, 1, true),
+        Kernel::SPlusP => pair_rows(l, a, b, step, m, lanes, 0, 1, true),
+        Kernel::TT => pair_rows(l, a, b, step, m, lanes, 0, 1, true),
+        Kernel::FiveThree => lift_rows(Step::High, l, b, a, step, m, lanes, 0, 1, true),
     }
 }

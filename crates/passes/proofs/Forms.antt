@@ -100,16 +100,13 @@ module _ (k : Kernel) (m c : ℕ) (l l′ : List ℤ) where
     unfolding turn
     high-in j n = ap (λ (i : ℕ). getD l i (pos 0)) (odd-place s t n j ∙ omega arith) ∙ sym (ap (λ (x : ℕ). parted (2 * m) (turn j) (x + n)) (sym (half m)) ∙ parted-odd (2 * m) n (turn j))
 
-    pub turns-form : Both (undoneEvens k m) (undoneOdds k m) s (s + t) (2 * t) c 0 m l l′ → Lines (onParted (back k)) (pos 0) s t (2 * m) c l l′
+    -- a line whose lows and highs stand in turn, taken back
+    pub even-turn : (j i : ℕ) → i < m → onParted (back k) (2 * m) (strided (pos 0) l (s + j) t) (2 * i) ≡ undoneEvens k m (lane s (2 * t) l j) (lane (s + t) (2 * t) l j) i
     unfolding turn
-    turns-form f = record {
-      size = f .size;
-      on = λ n j h r. by-parity (λ x. x < 2 * m → getD l′ (s + x * t + j) (pos 0) ≡ onParted (back k) (2 * m) (turn j) x)
-          (λ i q. ap (λ (x : ℕ). getD l′ x (pos 0)) (sym (even-place s t i j)) ∙ f .first i j (omega arith) (omega arith) r
-          ∙ first-local m _ _ (parted (2 * m) (turn j)) (behind m (parted (2 * m) (turn j))) (λ x p. low-in j x p) (λ x p. high-in j x) k i (omega arith)
-          ∙ sym (ap (λ (X : Line ℤ). X (2 * i)) (back-double k m (parted (2 * m) (turn j))) ∙ paired-even _ _ i))
-          (λ i q. ap (λ (x : ℕ). getD l′ x (pos 0)) (sym (odd-place s t i j)) ∙ f .second i j (omega arith) (omega arith) r
-          ∙ second-local m _ _ (parted (2 * m) (turn j)) (behind m (parted (2 * m) (turn j))) (λ x p. low-in j x p) (λ x p. high-in j x) k i (omega arith)
-          ∙ sym (ap (λ (X : Line ℤ). X (2 * i + 1)) (back-double k m (parted (2 * m) (turn j))) ∙ paired-odd _ _ i)) n h;
-      off = λ i no. f .off i (λ n j o h r e. no (2 * n) j (omega arith) r (e ∙ even-place s t n j)) (λ n j o h r e. no (2 * n + 1) j (omega arith) r (e ∙ odd-place s t n j));
-    }
+    even-turn j i h = sym (first-local m _ _ (parted (2 * m) (turn j)) (behind m (parted (2 * m) (turn j))) (λ x p. low-in j x p) (λ x p. high-in j x) k i h
+        ∙ sym (ap (λ (X : Line ℤ). X (2 * i)) (back-double k m (parted (2 * m) (turn j))) ∙ paired-even _ _ i))
+
+    pub odd-turn : (j i : ℕ) → i < m → onParted (back k) (2 * m) (strided (pos 0) l (s + j) t) (2 * i + 1) ≡ undoneOdds k m (lane s (2 * t) l j) (lane (s + t) (2 * t) l j) i
+    unfolding turn
+    odd-turn j i h = sym (second-local m _ _ (parted (2 * m) (turn j)) (behind m (parted (2 * m) (turn j))) (λ x p. low-in j x p) (λ x p. high-in j x) k i h
+        ∙ sym (ap (λ (X : Line ℤ). X (2 * i + 1)) (back-double k m (parted (2 * m) (turn j))) ∙ paired-odd _ _ i))

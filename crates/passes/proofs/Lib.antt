@@ -4,3 +4,4 @@ pub mod Forms
 pub mod Taking
 pub mod Running
 pub mod Placing
+pub mod Pairs

@@ -11,7 +11,7 @@ use lib.ListN.{length, getD}
 use Rattle.kernel.specs.declared.Kernel.{Kernel}
 use Rattle.line.specs.Inner.{Agree}
 use Rattle.line.specs.Cells.{Line}
-use Rattle.line.specs.Transform.{undoneEvens, undoneOdds, forward, back}
+use Rattle.line.specs.Transform.{forward}
 use Rattle.line.proofs.Cells.{by-lt}
 use Rattle.line.proofs.Local.{forward-local, back-local}
 use Rattle.grid.specs.Picture.{Picture, Transform, rowPass, turned, colPass, picture}
@@ -23,7 +23,7 @@ use Rattle.lifting.specs.Parts.{lane, Parts, Bounded, Both}
 use Rattle.lifting.specs.Lines.{lowsOf, highsOf}
 use Rattle.passes.specs.Passes.{lineTransform, order, columnTransform, Takes, Area}
 use Rattle.passes.proofs.Places.{even-place, odd-place, high-place}
-use Rattle.passes.proofs.Forms.{forward-form, turns-form}
+use Rattle.passes.proofs.Forms.{forward-form}
 
 pub line-local : (undo : Bool) (k : Kernel) → Local (lineTransform undo k)
 line-local false k = λ w X Y even a. forward-local k w X Y even a
@@ -157,9 +157,3 @@ module _ {stride w h : ℕ} (l : List ℤ) (z : Area stride w h (length l)) wher
   forward-columns k l′ f =
       let e : h / 2 * stride ≡ 0 + h / 2 * stride = omega arith in
       columns-passed false k l′ (forward-form k (h / 2) w l l′ 0 stride (subst (λ (b : ℕ). Both (lowsOf k (h / 2)) (highsOf k (h / 2)) 0 b stride w 0 (h / 2) l l′) e f))
-
-  pub back-columns : (k : Kernel) (l′ : List ℤ) → Both (undoneEvens k (h / 2)) (undoneOdds k (h / 2)) 0 stride (2 * stride) w 0 (h / 2) l l′
-      → picture (pos 0) stride l′ ≡ colPass (columnTransform true k) w h (picture (pos 0) stride l)
-  back-columns k l′ f =
-      let e : stride ≡ 0 + stride = omega arith in
-      columns-passed true k l′ (turns-form k (h / 2) w l l′ 0 stride (subst (λ (b : ℕ). Both (undoneEvens k (h / 2)) (undoneOdds k (h / 2)) 0 b (2 * stride) w 0 (h / 2) l l′) e f))

@@ -1,2 +1,3 @@
 -- What the contracts on passes cite.
 pub mod Passes
+pub mod Pairs

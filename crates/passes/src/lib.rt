@@ -1,7 +1,7 @@
 // Row and column passes over a plane, forward and back.
 ghost use mathlib.Core.Path.{_≡_};
-ghost use mathlib.Core.Bool.{false};
-ghost use Prim.Native.Nat.{ℕ, _+_, _*_, _-_, _^_, _<_, _≤_};
+ghost use mathlib.Core.Bool.{true, false};
+ghost use Prim.Native.Nat.{ℕ, _+_, _*_, _-_, _%_, _^_, _<_, _≤_};
 ghost use lib.IntN.{pos};
 ghost use lib.ListN.{length, getD};
 ghost use Rattle.line.specs.Inner.{AllWithin};
@@ -10,7 +10,9 @@ ghost use Rattle.grid.specs.Picture.{rowPass, colPass, turned, picture};
 ghost use Rattle.grid.specs.Buffer.{strided, InBuffer, Lines};
 ghost use Rattle.grid.specs.Placed.{parted};
 ghost use Rattle.runs.specs.Cells.{Written};
+ghost use Rattle.lifting.specs.Parts.{Parts, Bounded};
 ghost use Rattle.passes.specs.Passes.{lineTransform, order, columnTransform, pictured, Takes, Area};
+ghost use Rattle.passes.specs.Pairs.{endedRow, PairBack};
 use kernel::Kernel;
 
 // How many numbers of working memory a strip of columns takes.
@@ -92,18 +94,52 @@ pub fn col_pass(kernel: Kernel, l: &mut [i32], q: &mut [i32], stride: usize, w: 
     }
 }
 
-// The column pass in place, whole rows against whole rows: forward where the odd rows stand behind the even ones, back where the high rows
-// stand between the low ones.
-pub fn columns(kernel: Kernel, undo: bool, l: &mut [i32], stride: usize, w: usize, h: usize)
+// The column pass in place, forward, whole rows against whole rows, where the odd rows stand behind the even ones.
+pub fn columns(kernel: Kernel, l: &mut [i32], stride: usize, w: usize, h: usize)
     requires { ⌜ Area stride w h (length (now l)) ⌝ }
-    requires { ⌜ ((x : ℕ) → x < w → Takes undo h (order undo h (turned (picture (pos 0) stride (now l)) x))) ⌝ }
-    ensures { λ _. ⌜ picture (pos 0) stride (now (l .exit)) ≡ colPass (columnTransform undo kernel) w h (picture (pos 0) stride (now (l .entry))) ⌝ }
+    requires { ⌜ ((x : ℕ) → x < w → Takes false h (order false h (turned (picture (pos 0) stride (now l)) x))) ⌝ }
+    ensures { λ _. ⌜ picture (pos 0) stride (now (l .exit)) ≡ colPass (columnTransform false kernel) w h (picture (pos 0) stride (now (l .entry))) ⌝ }
 {
     let m = h / 2;
-    if undo {
-        lifting::back(kernel, l, 0, stride, 2 * stride, m, w);
-    } else {
-        lifting::forward(kernel, l, 0, m * stride, stride, m, w);
+    lifting::forward(kernel, l, 0, m * stride, stride, m, w);
+}
+
+// Of the m pairs of rows that are left, from `at` on, the high row between the low ones: ends the columns of the first pair, and takes its two
+// rows back.
+fn pair_back(
+    kernel: Kernel,
+    l: &mut [i32],
+    q: &mut [i32],
+    at: usize,
+    stride: usize,
+    m: usize,
+    w: usize,
+)
+    requires { ⌜ Parts at (at + stride) (2 * stride) m w (length (now l)) ⌝ }
+    requires { ⌜ (w % 2 ≡ 0) × (w ≤ 4096) × (w ≤ length (now q)) × (w ≤ stride) ⌝ }
+    requires { ⌜ Bounded (2 ^ 29) at (2 * stride) m w (now l) ⌝ }
+    requires { ⌜ Bounded (2 ^ 29) (at + stride) (2 * stride) m w (now l) ⌝ }
+    requires { ⌜ Takes true w (endedRow false kernel m at stride (now l)) × Takes true w (endedRow true kernel m at stride (now l)) ⌝ }
+    ensures { λ _. ⌜ PairBack kernel m at stride w (now (l .entry)) (now (l .exit)) ⌝ }
+{
+    lifting::end_back(kernel, l, at, at + stride, 2 * stride, m, w);
+    row(kernel, true, l, q, at, w / 2);
+    row(kernel, true, l, q, at + stride, w / 2);
+}
+
+// A level's way back in place, where the high rows stand between the low ones: the columns' first step, and then, pair after pair of rows,
+// their last step and the rows.
+pub fn level_back(kernel: Kernel, l: &mut [i32], q: &mut [i32], stride: usize, w: usize, h: usize)
+    requires { ⌜ Area stride w h (length (now l)) ⌝ }
+    requires { ⌜ w ≤ length (now q) ⌝ }
+    requires { ⌜ ((x : ℕ) → x < w → Takes true h (order true h (turned (picture (pos 0) stride (now l)) x))) ⌝ }
+    requires { ⌜ ((y : ℕ) → y < h → Takes true w (colPass (columnTransform true kernel) w h (picture (pos 0) stride (now l)) y)) ⌝ }
+    ensures { λ _. ⌜ picture (pos 0) stride (now (l .exit)) ≡ rowPass (lineTransform true kernel) w h (colPass (columnTransform true kernel) w h (picture (pos 0) stride (now (l .entry)))) ⌝ }
+{
+    let m = h / 2;
+    lifting::begin_back(kernel, l, 0, stride, 2 * stride, m, w);
+    for n in 0..m {
+        pair_back(kernel, l, q, 2 * n * stride, stride, m - n, w);
     }
 }
 

@@ -155,7 +155,7 @@ module _ {n w h S size : ℕ} (z : Levels S w h n size) (some : 0 < n) (l : List
       ∙ ap (undone k (n - 1) (w / 2) (h / 2)) (sym (gathered-more n w h (coefficientsOf S l) some))
 
   -- the columns of this level
-  pub columns-undone : (k : Kernel) (l′ l″ : List ℤ) → coefficientsOf (2 * S) l′ ≡ undone k (n - 1) (w / 2) (h / 2) (gathered (n - 1) (w / 2) (h / 2) (coefficientsOf (2 * S) l))
-      → coefficientsOf S l″ ≡ colPass (columnTransform true k) w h (coefficientsOf S l′) → coefficientsOf S l″ ≡ colPass (back k) w h (undone k (n - 1) (w / 2) (h / 2) (gathered n w h (coefficientsOf S l)))
-  columns-undone k l′ l″ e d =
-      d ∙ sym (cols-compose (back k) parted (line-local true k) w h (coefficientsOf S l′) (halves-more n w h some (z .halves) .1)) ∙ ap (colPass (back k) w h) (below-undone k l′ e)
+  pub columns-undone : (k : Kernel) (l′ : List ℤ) → coefficientsOf (2 * S) l′ ≡ undone k (n - 1) (w / 2) (h / 2) (gathered (n - 1) (w / 2) (h / 2) (coefficientsOf (2 * S) l))
+      → colPass (columnTransform true k) w h (coefficientsOf S l′) ≡ colPass (back k) w h (undone k (n - 1) (w / 2) (h / 2) (gathered n w h (coefficientsOf S l)))
+  columns-undone k l′ e =
+      sym (cols-compose (back k) parted (line-local true k) w h (coefficientsOf S l′) (halves-more n w h some (z .halves) .1)) ∙ ap (colPass (back k) w h) (below-undone k l′ e)

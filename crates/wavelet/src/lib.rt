@@ -74,7 +74,7 @@ fn transform_all(
     ensures { λ _. ⌜ Result (pos 0) true (λ i. transformed kernel levels w h (samplesOf w (now (samples .entry))) (i / w) (i % w)) (now (plane .entry)) (now (plane .exit)) ⌝ }
 {
     passes::rows_in(kernel, samples, plane, w, h);
-    passes::columns(kernel, false, plane, w, w, h);
+    passes::columns(kernel, plane, w, w, h);
     let mut q = [0i32; 32768];
     rows(kernel, plane, &mut q, w, w / 2, h / 2, levels - 1);
 }
@@ -119,7 +119,7 @@ pub fn transform(
     Answer::Done
 }
 
-// The way back, in place on rows `stride` apart: the levels below, on every other row, then the columns and the rows of this one.
+// The way back, in place on rows `stride` apart: the levels below, on every other row, then this one.
 fn undo_levels(
     kernel: Kernel,
     l: &mut [i32],
@@ -136,8 +136,7 @@ fn undo_levels(
 {
     if 0 < levels {
         undo_levels(kernel, l, q, 2 * stride, w / 2, h / 2, levels - 1);
-        passes::columns(kernel, true, l, stride, w, h);
-        passes::row_pass(kernel, true, l, q, stride, w, h);
+        passes::level_back(kernel, l, q, stride, w, h);
     }
 }
 

@@ -24,9 +24,9 @@ transform-all-spec =
     (λ c. search needs)
     (λ c. c .before .before .before .before .before .before .before .before .before .pre .0 .some)
     (λ c κs. let s = c .before .before .before .before .before .before .before .before .before in let a = s .args in let z = s .pre .0 in let p = c .before .before .before .before .before .before .rows-in in let d = c .before .before .before .columns in let b = area-below (z .few) (s .pre .1) refl in
-    (levels-more (sized-levels z (d .kept .1 .1 .0 ∙ p .kept .1 .1 .0)) (z .some), (search needs, first-below (a .kernel) (z .some) (z .few) (z .halves) b (first-level (a .kernel) (z .some) (z .few) (z .halves) b (p .ensures) (d .ensures)))))
+    (levels-more (sized-levels z (d .kept .1 .0 ∙ p .kept .1 .1 .0)) (z .some), (search needs, first-below (a .kernel) (z .some) (z .few) (z .halves) b (first-level (a .kernel) (z .some) (z .few) (z .halves) b (p .ensures) (d .ensures)))))
     (λ c. search needs)
     (λ c. let s = c .before .before .before .before .before .before .before .before .before .before .before .before in let a = s .args in let z = s .pre .0 in let p = c .before .before .before .before .before .before .before .before .before .rows-in in let d = c .before .before .before .before .before .before .columns in let u = c .before .before .rows in let T = forward (a .kernel) in
-    filled (a .w) (a .h) (a .plane .now) _ _ (u .kept .1 .0 ∙ d .kept .1 .1 .0 ∙ p .kept .1 .1 .0) (z .to)
+    filled (a .w) (a .h) (a .plane .now) _ _ (u .kept .1 .0 ∙ d .kept .1 .0 ∙ p .kept .1 .1 .0) (z .to)
     (u .ensures ∙ ap (walk T (a .levels - 1) (lowSide (a .w)) (lowSide (a .h))) (first-level (a .kernel) (z .some) (z .few) (z .halves) (area-below (z .few) (s .pre .1) refl) (p .ensures) (d .ensures))
     ∙ sym (walk-more T (a .levels) (a .w) (a .h) (samplesOf (a .w) (a .samples .now)) (z .some)))))

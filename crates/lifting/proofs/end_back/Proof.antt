@@ -1,0 +1,31 @@
+-- `lifting::end_back` does the last step of the way back on one row. Assumes nothing.
+use mathlib.Core.Bool.{true}
+use native.Mathlib.Omega.{arith}
+use borrow.Author.Needs.{needs}
+use Rattle.runs.specs.declared.Step.the-variants.{High}
+use Rattle.lifting.proofs.Rows.{parts-swap, one-row}
+use Rattle.lifting.proofs.Lifts.{straight-one, fit-part}
+use Rattle.lifting.proofs.Stages.{lift-fit, join-able, pairable-part, row-second}
+use Rattle.lifting.proofs.end_back.Statement.{statement}
+use Rattle.lifting.proofs.end_back.Tie as tie
+
+pub end-back-spec : {M : Type 1} → statement M
+end-back-spec =
+    tie.close (tie.spec
+    (λ c. search needs)
+    (λ c κs. let s = c .before .before .before in let a = s .args in ((omega arith, omega (arith, s .pre .0 .some)), (s .pre .0, (one-row (a .step) (a .lanes), pairable-part true 0 1 (join-able (s .pre .1 .0) (s .pre .1 .1) tt) (omega arith) (s .pre .0 .some)))))
+    (λ c. search needs)
+    (λ c κs. let s = c .before .before .before in let a = s .args in ((omega arith, omega (arith, s .pre .0 .some)), (s .pre .0, (one-row (a .step) (a .lanes), pairable-part true 0 1 (join-able (s .pre .1 .0) (s .pre .1 .1) tt) (omega arith) (s .pre .0 .some)))))
+    (λ c. search needs)
+    (λ c κs. let s = c .before .before .before in let a = s .args in ((omega arith, omega (arith, s .pre .0 .some)), (s .pre .0, (one-row (a .step) (a .lanes), pairable-part true 0 1 (join-able (s .pre .1 .0) (s .pre .1 .1) tt) (omega arith) (s .pre .0 .some)))))
+    (λ c. search needs)
+    (λ c κs. let s = c .before .before .before in let a = s .args in let x = s .pre .1 .0 in let y = s .pre .1 .1 in
+    ((omega arith, omega (arith, s .pre .0 .some)), (parts-swap (s .pre .0), (one-row (a .step) (a .lanes), (straight-one High (a .m) 0, (x, fit-part 0 1 (lift-fit High true y x tt) (omega arith) (s .pre .0 .some)))))))
+    (λ c. search needs)
+    (λ c. rw (c .before .before .before .enum-told .given .1) (c .before .pair-rows .ensures))
+    (λ c. search needs)
+    (λ c. rw (c .before .before .before .enum-told2 .given .1) (c .before .pair-rows2 .ensures))
+    (λ c. search needs)
+    (λ c. rw (c .before .before .before .enum-told3 .given .1) (c .before .pair-rows3 .ensures))
+    (λ c. search needs)
+    (λ c. rw (c .before .before .before .enum-told4 .given .1) (row-second 1 (c .before .before .before .before .before .pre .0 .some) (c .before .before .before .before .before .pre .0) (c .before .lift-rows .ensures))))

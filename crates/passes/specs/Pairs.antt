@@ -1,0 +1,27 @@
+-- A pair of rows, a low one and the high one behind it, that the way back of a level ends.
+--
+--   endedRow high k M s t l     == the row at s, or the one t behind it, after the last step of its columns, of which M pairs are left
+--   PairBack k M s t w l l′     == l′ is l with both rows of w numbers after that taken back
+--
+-- Assumes nothing: these are definitions.
+use mathlib.Core.Path.{_≡_}
+use mathlib.Core.Bool.{Bool, true, false}
+use mathlib.Core.List.{List}
+use Prim.Native.Nat.{ℕ, _+_, _*_, _<_}
+use lib.IntN.{ℤ}
+use lib.ListN.{length}
+use Rattle.kernel.specs.declared.Kernel.{Kernel}
+use Rattle.line.specs.Cells.{Line, cell}
+use Rattle.line.specs.Transform.{back}
+use Rattle.lifting.specs.Parts.{lane}
+use Rattle.lifting.specs.Lines.{endedFirst, endedSecond}
+
+abbrev pub endedRow : Bool → Kernel → ℕ → ℕ → ℕ → List ℤ → Line ℤ
+endedRow false k M s t l x = endedFirst k (lane s (2 * t) l x) (lane (s + t) (2 * t) l x) 0
+endedRow true k M s t l x = endedSecond k M (lane s (2 * t) l x) (lane (s + t) (2 * t) l x) 0
+
+pub record PairBack (k : Kernel) (M s t w : ℕ) (l l′ : List ℤ) : Type 0 where
+  pub size : length l′ ≡ length l
+  pub low : (x : ℕ) → x < w → cell l′ (s + x) ≡ back k w (endedRow false k M s t l) x
+  pub high : (x : ℕ) → x < w → cell l′ (s + t + x) ≡ back k w (endedRow true k M s t l) x
+  pub off : (i : ℕ) → ((x : ℕ) → x < w → i ≡ s + x → ⊥) → ((x : ℕ) → x < w → i ≡ s + t + x → ⊥) → cell l′ i ≡ cell l i
