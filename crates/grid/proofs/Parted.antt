@@ -16,7 +16,6 @@ use Rattle.grid.specs.Picture.{Picture, Transform, onLine, rowPass, turn
 use Rattle.grid.specs.Placed.{parted, woven, onWoven, placed}
 use Rattle.grid.proofs.Passes.{Local, line-in, line-past, pass-in, pass-past}
 use Rattle.grid.proofs.Outside.{row-below, row-right}
-use Rattle.grid.proofs.Back.{row-back, col-back}
 
 -- ---- cells of lines
 abbrev pub source : ℕ → ℕ → ℕ
@@ -71,12 +70,6 @@ module _ {A : Type 0} where
   woven-parted w X even = by-parity (λ x. x < w → woven w (parted w X) x ≡ X x)
       (λ n h. woven-even w n (parted w X) ∙ parted-even w n X (omega arith))
       (λ n h. woven-odd w n (parted w X) ∙ parted-odd w n X)
-
-  pub parted-woven : (w : ℕ) (X : Line A) → w % 2 ≡ 0 → Agree w (parted w (woven w X)) X
-  parted-woven w X even x h = by-lt x (lowSide w)
-      (λ lt. parted-even w x (woven w X) lt ∙ woven-even w x X)
-      (λ ge. let n : ℕ = x - lowSide w in let e : x ≡ lowSide w + n = omega arith in
-      ap (parted w (woven w X)) e ∙ parted-odd w n (woven w X) ∙ woven-odd w n X ∙ ap X (sym e))
 
   pub on-woven-local : (T : Transform A) → Local T → Local (onWoven T)
   on-woven-local T local w X Y even a = local w (woven w X) (woven w Y) even (woven-local w X Y even a)
@@ -158,11 +151,6 @@ module _ {A : Type 0} (w h : ℕ) (P : Picture A) (even-w : w % 2 ≡ 0) (even-h
 
   pub placed-right : (y x : ℕ) → w ≤ x → placed w h P y x ≡ P y x
   placed-right y x ge = row-below parted h w x y (turned (rowPass parted w h P)) ge ∙ row-right parted w h y x P ge
-
-  pub unplaced : rowPass woven w h (colPass woven w h (placed w h P)) ≡ P
-  unplaced =
-      ap (rowPass woven w h) (col-back parted woven woven-local woven-parted w h (rowPass parted w h P) even-h)
-      ∙ row-back parted woven woven-local woven-parted w h P even-w
 
   -- the first level, on a placed picture
   pub level-on-placed : (T : Transform A) → Local T → colPass (onWoven T) w h (rowPass (onWoven T) w h (placed w h P)) ≡ colPass T w h (rowPass T w h P)

@@ -16,7 +16,7 @@ use Rattle.line.proofs.Border.{inside-in, inside-here}
 use Rattle.line.proofs.Local.{predict-reach, update-local}
 use Rattle.steps.specs.Moved.{moved}
 use Rattle.runs.specs.declared.Step.{Step}
-use Rattle.runs.specs.declared.Step.the-variants.{SPlusP, TT, WideTT, High, Low}
+use Rattle.runs.specs.declared.Step.the-variants.{SPlusP, TT, High, Low}
 use Rattle.runs.specs.declared.Taps.{Taps}
 use Rattle.runs.specs.Cells.{Written}
 use Rattle.runs.specs.Steps.{amountAt, movedAt, Apart, tapBound, Room, Near, Stays}
@@ -40,7 +40,6 @@ straight-between s M n r low high = record {
 pub look-two : (s : Step) → (lookBack s ≤ 2) × (lookAhead s ≤ 2)
 look-two SPlusP = omega arith
 look-two TT = omega arith
-look-two WideTT = omega arith
 look-two High = omega arith
 look-two Low = omega arith
 
@@ -70,8 +69,6 @@ amount-row : (s : Step) (M n r t c u v : ℕ) → EndToEnd t c r → Straight s 
 unfolding predict update
 amount-row SPlusP M n r t c u v x st l i j h = sym (ap₂ slopeA (cell-before x st l i j h v 1 (omega arith)) (cell-after x st l i j h v 1 (omega arith)))
 amount-row TT M n r t c u v x st l i j h =
-    rw (cell-before x st l i j h v 2 (omega arith), cell-before x st l i j h v 1 (omega arith), cell-after x st l i j h v 1 (omega arith), cell-after x st l i j h v 2 (omega arith))
-amount-row WideTT M n r t c u v x st l i j h =
     rw (cell-before x st l i j h v 2 (omega arith), cell-before x st l i j h v 1 (omega arith), cell-after x st l i j h v 1 (omega arith), cell-after x st l i j h v 2 (omega arith))
 amount-row High M n r t c u v x st l i j h = sym (ap₂ between (cell-here x st l i j h v) (cell-after x st l i j h v 1 (omega arith)))
 amount-row Low M n r t c u v x st l i j h = sym (ap₂ smoothing (cell-before x st l i j h v 1 (omega arith)) (cell-here x st l i j h v))
@@ -135,7 +132,6 @@ module _ (s : Step) (M n r c u v t : ℕ) (l : List ℤ) (p : Taps) (e : p ≡ t
 pub amount-local : (s : Step) (M n : ℕ) (L L′ : Line ℤ) → n < M → Agree M L L′ → amount s M L n ≡ amount s M L′ n
 amount-local SPlusP M n L L′ h a = predict-reach kernel.SPlusP M n L L′ h (λ i lt p q. a i lt)
 amount-local TT M n L L′ h a = predict-reach kernel.TT M n L L′ h (λ i lt p q. a i lt)
-amount-local WideTT M n L L′ h a = predict-reach kernel.TT M n L L′ h (λ i lt p q. a i lt)
 amount-local High M n L L′ h a = predict-reach kernel.FiveThree M n L L′ h (λ i lt p q. a i lt)
 amount-local Low M n L L′ h a = update-local M n L L′ h a
 

@@ -27,8 +27,9 @@ use Rattle.line.proofs.Cells.{by-lt, paired-even, paired-odd}
 use Rattle.line.proofs.Local.{predict-reach, update-local}
 use Rattle.steps.specs.Moved.{moved}
 use Rattle.runs.specs.Cells.{Pairs}
+use Rattle.runs.specs.Steps.{tapBound}
 use Rattle.runs.specs.declared.Step.{Step}
-use Rattle.runs.specs.declared.Step.the-variants.{SPlusP, TT, WideTT, High, Low}
+use Rattle.runs.specs.declared.Step.the-variants.{SPlusP, TT, High, Low}
 use Rattle.lifting.specs.Parts.{lane, Parts, Bounded, Both}
 use Rattle.lifting.specs.Steps.{amount, movedRow, EndToEnd, Fit, Lifted}
 use Rattle.lifting.specs.Lines.{pairFirst, pairSecond, firsts, seconds, PairFit, Pairable, predicted, again, begunFirst, begunSecond, endedFirst, endedSecond, lowsOf, highsOf}
@@ -58,15 +59,19 @@ module _ {a b t c m : ℕ} where
     off = f .off;
   }
 
-  -- a step that moves the second part, and one that moves the first
-  pub step-second : {s : Step} {add : Bool} {l l′ : List ℤ} → Parts a b t m c (length l) → Lifted s add m c 0 m b a t l l′
-      → Both (λ A B. A) (λ A B n. moved add (B n) (amount s m A n)) a b t c 0 m l l′
-  step-second g f = record {
+  -- a step that moves the first rows of the second part, one that moves the second part, and one that moves the first
+  pub row-second : {s : Step} {add : Bool} {l l′ : List ℤ} (e : ℕ) → e ≤ m → Parts a b t m c (length l) → Lifted s add m c 0 e b a t l l′
+      → Both (λ A B. A) (λ A B n. moved add (B n) (amount s m A n)) a b t c 0 e l l′
+  row-second e le g f = record {
     size = f .rows .size;
-    first = λ n j o h k. rows-other 0 m (parts-swap g) (omega arith) (f .rows) n j h k;
+    first = λ n j o h k. rows-other 0 e (parts-swap g) le (f .rows) n j (omega arith) k;
     second = f .rows .on;
     off = λ i x y. f .rows .off i y;
   }
+
+  pub step-second : {s : Step} {add : Bool} {l l′ : List ℤ} → Parts a b t m c (length l) → Lifted s add m c 0 m b a t l l′
+      → Both (λ A B. A) (λ A B n. moved add (B n) (amount s m A n)) a b t c 0 m l l′
+  step-second g f = row-second m (omega arith) g f
 
   pub step-first : {s : Step} {add : Bool} {l l′ : List ℤ} → Parts a b t m c (length l) → Lifted s add m c 0 m a b t l l′
       → Both (λ A B n. moved add (A n) (amount s m B n)) (λ A B. B) a b t c 0 m l l′
@@ -138,9 +143,15 @@ pairable-part join u v p x y = record { each = λ n j q h. p .each n j (omega ar
 amount-within : (s : Step) (M a : ℕ) (L : Line ℤ) → AllWithin a M L → AllWithin (a + 1) M (amount s M L)
 amount-within SPlusP M a L all = predict-within kernel.SPlusP M a L all
 amount-within TT M a L all = predict-within kernel.TT M a L all
-amount-within WideTT M a L all = predict-within kernel.TT M a L all
 amount-within High M a L all = predict-within kernel.FiveThree M a L all
 amount-within Low M a L all = λ n h. within-more (update-within M a L all n h) (omega arith)
+
+-- what each step takes at least
+pub forward-tap : (s : Step) → 5 * 2 ^ 22 ≤ tapBound s
+forward-tap SPlusP = omega arith
+forward-tap TT = omega arith
+forward-tap High = omega arith
+forward-tap Low = omega arith
 
 moved-within : (add : Bool) (a b : ℕ) (t p : ℤ) → Within a t → Within b p → Within (a + b) (moved add t p)
 moved-within true a b t p v w = add-within a b t p v w
@@ -178,12 +189,6 @@ first-local A A′ B B′ x y = x
 pub second-local : {M : ℕ} → Local M (λ A B. B)
 second-local A A′ B B′ x y = y
 
-pub pair-first-local : {M : ℕ} (join : Bool) → Local M (firsts join)
-pair-first-local join A A′ B B′ x y n h = ap₂ (pairFirst join) (x n h) (y n h)
-
-pub pair-second-local : {M : ℕ} (join : Bool) → Local M (seconds join)
-pair-second-local join A A′ B B′ x y n h = ap₂ (pairSecond join) (x n h) (y n h)
-
 pub moves-second-local : {M : ℕ} (s : Step) (add : Bool) → Local M (λ A B n. moved add (B n) (amount s M A n))
 moves-second-local {M} s add A A′ B B′ x y n h = ap₂ (moved add) (y n h) (amount-local s M n A A′ h x)
 
@@ -218,25 +223,9 @@ module _ {a b t c m : ℕ} {l l′ : List ℤ} where
   unfolding low high
   forward-tt = both-as (λ A B n h. means-of m A B n) (λ A B n h. pair-high-of m A B kernel.TT n h)
 
-  pub back-s : Both (firsts true) (seconds true) a b t c 0 m l l′ → Both (undoneEvens kernel.S m) (undoneOdds kernel.S m) a b t c 0 m l l′
-  unfolding undoneEvens undoneOdds
-  back-s = both-as (λ A B n h. ap (firstOf (A n)) (sym (add-none m A n (B n)))) (λ A B n h. ap (secondOf (A n)) (sym (add-none m A n (B n))))
-
-  pub back-a : Both (λ A B. firsts true A (again SPlusP m A B)) (λ A B. seconds true A (again SPlusP m A B)) a b t c 0 m l l′ → Both (undoneEvens kernel.SPlusP m) (undoneOdds kernel.SPlusP m) a b t c 0 m l l′
-  unfolding undoneEvens undoneOdds
-  back-a = both-as (λ A B n h. refl) (λ A B n h. refl)
-
-  pub back-tt : Both (λ A B. firsts true A (again WideTT m A B)) (λ A B. seconds true A (again WideTT m A B)) a b t c 0 m l l′ → Both (undoneEvens kernel.TT m) (undoneOdds kernel.TT m) a b t c 0 m l l′
-  unfolding undoneEvens undoneOdds
-  back-tt = both-as (λ A B n h. refl) (λ A B n h. refl)
-
   module _ {l″ : List ℤ} (g : Parts a b t m c (length l)) where
     pub forward-pairs : {s : Step} → Both (firsts false) (seconds false) a b t c 0 m l l′ → Lifted s false m c 0 m b a t l′ l″ → Both (firsts false) (predicted s m) a b t c 0 m l l″
     forward-pairs {s} f h = both-then first-local (moves-second-local s false) f (step-second (parts-as g (f .size)) h)
-
-    pub back-pairs : {s : Step} → Lifted s true m c 0 m b a t l l′ → Both (firsts true) (seconds true) a b t c 0 m l′ l″
-        → Both (λ A B. firsts true A (again s m A B)) (λ A B. seconds true A (again s m A B)) a b t c 0 m l l″
-    back-pairs {s} f h = both-then (pair-first-local true) (pair-second-local true) (step-second g f) h
 
     pub forward-five-three : Lifted High false m c 0 m b a t l l′ → Lifted Low true m c 0 m a b t l′ l″ → Both (lowsOf kernel.FiveThree m) (highsOf kernel.FiveThree m) a b t c 0 m l l″
     unfolding low
@@ -244,10 +233,6 @@ module _ {a b t c m : ℕ} {l l′ : List ℤ} where
         (λ A B n k. ap₂ _+ℤ_ (sym (paired-even A B n)) (update-local m n _ (high kernel.FiveThree m (paired A B)) k (λ i lt. high-of m A B i lt)))
         (λ A B n k. high-of m A B n k)
         (both-then (moves-first-local Low true) second-local (step-second g f) (step-first (parts-as g (f .rows .size)) h))
-
-    pub back-five-three : Lifted Low false m c 0 m a b t l l′ → Lifted High true m c 0 m b a t l′ l″ → Both (undoneEvens kernel.FiveThree m) (undoneOdds kernel.FiveThree m) a b t c 0 m l l″
-    unfolding undoneEvens undoneOdds
-    back-five-three f h = both-as (λ A B n k. refl) (λ A B n k. refl) (both-then first-local (moves-second-local High true) (step-first g f) (step-second (parts-as g (f .rows .size)) h))
 
 -- ---- the way back in two steps
 pub ended-first : (k : Kernel) (M : ℕ) (A B : Line ℤ) → Agree M (endedFirst k (begunFirst k M A B) (begunSecond k M A B)) (undoneEvens k M A B)
@@ -278,15 +263,6 @@ ended-behind kernel.FiveThree M n A B h =
     let e : n + 0 ≡ n = omega arith in
     let d : n + inside (M - n) (0 + 1) 0 ≡ inside M (n + 1) 0 = behind-inside M n h in rw (e, d)
 
-pub row-second : {s : Step} {add : Bool} {a b t c m : ℕ} {l l′ : List ℤ} (e : ℕ) → e ≤ m → Parts a b t m c (length l) → Lifted s add m c 0 e b a t l l′
-    → Both (λ A B. A) (λ A B n. moved add (B n) (amount s m A n)) a b t c 0 e l l′
-row-second e le g f = record {
-  size = f .rows .size;
-  first = λ n j o h k. rows-other 0 e (parts-swap g) le (f .rows) n j (omega arith) k;
-  second = f .rows .on;
-  off = λ i x y. f .rows .off i y;
-}
-
 pub both-none : (a b t c m : ℕ) (l : List ℤ) → Both (λ A B. A) (λ A B. B) a b t c 0 m l l
 both-none a b t c m l = record { size = refl; first = λ n j o h k. refl; second = λ n j o h k. refl; off = λ i x y. refl }
 
@@ -315,3 +291,14 @@ module _ (M : ℕ) (A B : Line ℤ) (x : AllWithin (2 ^ 28) M A) (y : AllWithin 
   begun-second kernel.SPlusP n h = within-more (add-within (2 ^ 24) _ _ _ (y n h) (predict-within kernel.SPlusP M (2 ^ 28) A x n h)) (omega arith)
   begun-second kernel.TT n h = within-more (add-within (2 ^ 24) _ _ _ (y n h) (predict-within kernel.TT M (2 ^ 28) A x n h)) (omega arith)
   begun-second kernel.FiveThree n h = within-more (y n h) (omega arith)
+
+module _ (k : Kernel) {a b t c m : ℕ} {l l′ : List ℤ} (f : Both (begunFirst k m) (begunSecond k m) a b t c 0 m l l′) where
+  module _ (x : Bounded (2 ^ 28) a t m c l) (y : Bounded (2 ^ 24) b t m c l) where
+    pub begun-lows : Bounded (2 ^ 29) a t m c l′
+    begun-lows = record { each = λ j q n h. rw (f .first n j (omega arith) h q) (begun-first m _ _ (x .each j q) (y .each j q) k n h) }
+
+    pub begun-highs : Bounded (2 ^ 29) b t m c l′
+    begun-highs = record { each = λ j q n h. rw (f .second n j (omega arith) h q) (begun-second m _ _ (x .each j q) (y .each j q) k n h) }
+
+  pub both-steps : {l″ : List ℤ} → Both (endedFirst k) (endedSecond k m) a b t c 0 m l′ l″ → Both (undoneEvens k m) (undoneOdds k m) a b t c 0 m l l″
+  both-steps g = both-as (ended-first k m) (ended-second k m) (both-then (ended-first-local k) (ended-second-local k) f g)

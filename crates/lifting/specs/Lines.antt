@@ -69,7 +69,7 @@ begunFirst FiveThree M A B = λ n. A n -ℤ update M B n
 abbrev pub begunSecond : Kernel → ℕ → Line ℤ → Line ℤ → Line ℤ
 begunSecond S M A B = B
 begunSecond SPlusP M A B = again step.SPlusP M A B
-begunSecond TT M A B = again step.WideTT M A B
+begunSecond TT M A B = again step.TT M A B
 begunSecond FiveThree M A B = B
 
 abbrev pub endedFirst : Kernel → Line ℤ → Line ℤ → Line ℤ

@@ -25,28 +25,25 @@ use Rattle.line.specs.Cells.{Line}
 use Rattle.line.specs.Transform.{inside, predict, update}
 use Rattle.steps.specs.Moved.{moved}
 use Rattle.runs.specs.declared.Step.{Step}
-use Rattle.runs.specs.declared.Step.the-variants.{SPlusP, TT, WideTT, High, Low}
+use Rattle.runs.specs.declared.Step.the-variants.{SPlusP, TT, High, Low}
 use Rattle.runs.specs.declared.Taps.{Taps}
 use Rattle.lifting.specs.Parts.{lane, Rows}
 
 abbrev pub amount : Step → ℕ → Line ℤ → Line ℤ
 amount SPlusP M x n = predict kernel.SPlusP M x n
 amount TT M x n = predict kernel.TT M x n
-amount WideTT M x n = predict kernel.TT M x n
 amount High M x n = predict kernel.FiveThree M x n
 amount Low M x n = update M x n
 
 abbrev pub lookBack : Step → ℕ
 lookBack SPlusP = 1
 lookBack TT = 2
-lookBack WideTT = 2
 lookBack High = 0
 lookBack Low = 1
 
 abbrev pub lookAhead : Step → ℕ
 lookAhead SPlusP = 1
 lookAhead TT = 2
-lookAhead WideTT = 2
 lookAhead High = 1
 lookAhead Low = 0
 

@@ -1,14 +1,14 @@
 // Lifting: the line transforms, forward and back, in place on lines side by side whose two parts stand in one buffer.
 ghost use mathlib.Core.Path.{_≡_};
 ghost use mathlib.Core.Bool.{true, false};
-ghost use Prim.Native.Nat.{_+_, _*_, _^_, _≤_, _<_, min};
+ghost use Prim.Native.Nat.{_+_, _*_, _^_, _≤_, _<_};
 ghost use lib.ListN.{length};
 ghost use Rattle.kernel.specs.declared.Kernel.the-variants.{FiveThree};
 ghost use Rattle.line.specs.Transform as line;
 ghost use Rattle.runs.specs.Steps.{tapBound};
 ghost use Rattle.lifting.specs.Parts.{In, Parts, Bounded, Both};
 ghost use Rattle.lifting.specs.Steps.{lookBack, lookAhead, tapsOf, Straight, EndToEnd, Fit, Lifted};
-ghost use Rattle.lifting.specs.Lines.{firsts, seconds, Pairable, predicted, again, begunFirst, begunSecond, endedFirst, endedSecond, lowsOf, highsOf};
+ghost use Rattle.lifting.specs.Lines.{firsts, seconds, Pairable, predicted, begunFirst, begunSecond, endedFirst, endedSecond, lowsOf, highsOf};
 use kernel::Kernel;
 use runs::Step;
 use runs::Taps;
@@ -20,7 +20,6 @@ fn look_back(s: Step) -> usize
     match s {
         Step::SPlusP => 1,
         Step::TT => 2,
-        Step::WideTT => 2,
         Step::High => 0,
         Step::Low => 1,
     }
@@ -33,17 +32,9 @@ fn look_ahead(s: Step) -> usize
     match s {
         Step::SPlusP => 1,
         Step::TT => 2,
-        Step::WideTT => 2,
         Step::High => 1,
         Step::Low => 0,
     }
-}
-
-// The smaller of two numbers.
-pub fn least(x: usize, y: usize) -> usize
-    ensures { λ r. ⌜ r ≡ min x y ⌝ }
-{
-    if x < y { x } else { y }
 }
 
 // The index among m that stands for u - d.
@@ -61,7 +52,7 @@ fn row_start(size: usize, part: usize, n: usize, step: usize) -> usize
     requires { ⌜ part + n * step < size ⌝ }
     ensures { λ r. ⌜ r ≡ part + n * step ⌝ }
 {
-    least(part + n * step, size)
+    whole::least(part + n * step, size)
 }
 
 // Where the row of a part of m rows begins that stands for row u - d.
@@ -82,8 +73,8 @@ fn taps(s: Step, size: usize, to: usize, from: usize, step: usize, m: usize, n: 
 {
     let back = look_back(s);
     let ahead = look_ahead(s);
-    let near_back = least(1, back);
-    let near_ahead = least(1, ahead);
+    let near_back = whole::least(1, back);
+    let near_ahead = whole::least(1, ahead);
     Taps {
         at: row_near(size, to, m, n, 0, step),
         here: row_near(size, from, m, n, 0, step),
@@ -228,7 +219,6 @@ fn pairs(l: &mut [i32], a: usize, b: usize, step: usize, m: usize, lanes: usize,
 // Kernels 1 and 2, forward: what step s predicts from the means is taken off the differences.
 fn forward_pairs(s: Step, l: &mut [i32], a: usize, b: usize, step: usize, m: usize, lanes: usize)
     requires { ⌜ Parts a b step m lanes (length (now l)) ⌝ }
-    requires { ⌜ 5 * 2 ^ 22 ≤ tapBound s ⌝ }
     requires { ⌜ Bounded (5 * 2 ^ 22) a step m lanes (now l) ⌝ }
     requires { ⌜ Bounded (5 * 2 ^ 22) b step m lanes (now l) ⌝ }
     ensures { λ _. ⌜ Both (firsts false) (predicted s m) a b step lanes 0 m (now (l .entry)) (now (l .exit)) ⌝ }
@@ -271,44 +261,6 @@ pub fn forward(
     }
 }
 
-// Kernels 1 and 2, back: what step s predicts is added to the highs.
-fn back_pairs(s: Step, l: &mut [i32], a: usize, b: usize, step: usize, m: usize, lanes: usize)
-    requires { ⌜ Parts a b step m lanes (length (now l)) ⌝ }
-    requires { ⌜ 2 ^ 28 ≤ tapBound s ⌝ }
-    requires { ⌜ Bounded (2 ^ 28) a step m lanes (now l) ⌝ }
-    requires { ⌜ Bounded (2 ^ 24) b step m lanes (now l) ⌝ }
-    ensures { λ _. ⌜ Both (λ A B. firsts true A (again s m A B)) (λ A B. seconds true A (again s m A B)) a b step lanes 0 m (now (l .entry)) (now (l .exit)) ⌝ }
-{
-    lift(s, l, b, a, step, m, lanes, true);
-    pairs(l, a, b, step, m, lanes, true);
-}
-
-// Kernel 3, back.
-fn back_five_three(l: &mut [i32], a: usize, b: usize, step: usize, m: usize, lanes: usize)
-    requires { ⌜ Parts a b step m lanes (length (now l)) ⌝ }
-    requires { ⌜ Bounded (2 ^ 28) a step m lanes (now l) ⌝ }
-    requires { ⌜ Bounded (2 ^ 24) b step m lanes (now l) ⌝ }
-    ensures { λ _. ⌜ Both (line.undoneEvens FiveThree m) (line.undoneOdds FiveThree m) a b step lanes 0 m (now (l .entry)) (now (l .exit)) ⌝ }
-{
-    lift(Step::Low, l, a, b, step, m, lanes, false);
-    lift(Step::High, l, b, a, step, m, lanes, true);
-}
-
-// The way back: the lows of `lanes` lines of 2m numbers stand at a, their highs at b, and the lines' evens and odds take their place.
-pub fn back(kernel: Kernel, l: &mut [i32], a: usize, b: usize, step: usize, m: usize, lanes: usize)
-    requires { ⌜ Parts a b step m lanes (length (now l)) ⌝ }
-    requires { ⌜ Bounded (2 ^ 28) a step m lanes (now l) ⌝ }
-    requires { ⌜ Bounded (2 ^ 24) b step m lanes (now l) ⌝ }
-    ensures { λ _. ⌜ Both (line.undoneEvens kernel m) (line.undoneOdds kernel m) a b step lanes 0 m (now (l .entry)) (now (l .exit)) ⌝ }
-{
-    match kernel {
-        Kernel::S => pairs(l, a, b, step, m, lanes, true),
-        Kernel::SPlusP => back_pairs(Step::SPlusP, l, a, b, step, m, lanes),
-        Kernel::TT => back_pairs(Step::WideTT, l, a, b, step, m, lanes),
-        Kernel::FiveThree => back_five_three(l, a, b, step, m, lanes),
-    }
-}
-
 // The first step of the way back, on all rows: what kernels 1 and 2 predict is added to the highs, what kernel 3 adds to the evens is taken off.
 pub fn begin_back(
     kernel: Kernel,
@@ -327,7 +279,7 @@ pub fn begin_back(
     match kernel {
         Kernel::S => {}
         Kernel::SPlusP => lift(Step::SPlusP, l, b, a, step, m, lanes, true),
-        Kernel::TT => lift(Step::WideTT, l, b, a, step, m, lanes, true),
+        Kernel::TT => lift(Step::TT, l, b, a, step, m, lanes, true),
         Kernel::FiveThree => lift(Step::Low, l, a, b, step, m, lanes, false),
     }
 }
@@ -353,4 +305,30 @@ pub fn end_back(
         Kernel::TT => pair_rows(l, a, b, step, m, lanes, 0, 1, true),
         Kernel::FiveThree => lift_rows(Step::High, l, b, a, step, m, lanes, 0, 1, true),
     }
+}
+
+// The last step on all rows.
+fn end_all(kernel: Kernel, l: &mut [i32], a: usize, b: usize, step: usize, m: usize, lanes: usize)
+    requires { ⌜ Parts a b step m lanes (length (now l)) ⌝ }
+    requires { ⌜ Bounded (2 ^ 29) a step m lanes (now l) ⌝ }
+    requires { ⌜ Bounded (2 ^ 29) b step m lanes (now l) ⌝ }
+    ensures { λ _. ⌜ Both (endedFirst kernel) (endedSecond kernel m) a b step lanes 0 m (now (l .entry)) (now (l .exit)) ⌝ }
+{
+    match kernel {
+        Kernel::S => pairs(l, a, b, step, m, lanes, true),
+        Kernel::SPlusP => pairs(l, a, b, step, m, lanes, true),
+        Kernel::TT => pairs(l, a, b, step, m, lanes, true),
+        Kernel::FiveThree => lift(Step::High, l, b, a, step, m, lanes, true),
+    }
+}
+
+// The way back: the lows of `lanes` lines of 2m numbers stand at a, their highs at b, and the lines' evens and odds take their place.
+pub fn back(kernel: Kernel, l: &mut [i32], a: usize, b: usize, step: usize, m: usize, lanes: usize)
+    requires { ⌜ Parts a b step m lanes (length (now l)) ⌝ }
+    requires { ⌜ Bounded (2 ^ 28) a step m lanes (now l) ⌝ }
+    requires { ⌜ Bounded (2 ^ 24) b step m lanes (now l) ⌝ }
+    ensures { λ _. ⌜ Both (line.undoneEvens kernel m) (line.undoneOdds kernel m) a b step lanes 0 m (now (l .entry)) (now (l .exit)) ⌝ }
+{
+    begin_back(kernel, l, a, b, step, m, lanes);
+    end_all(kernel, l, a, b, step, m, lanes);
 }

@@ -29,7 +29,7 @@ use Rattle.lifting.specs.Parts.{lane, Parts, Bounded, Both}
 use Rattle.lifting.specs.Lines.{begunFirst, begunSecond, endedFirst, endedSecond}
 use Rattle.passes.specs.Passes.{columnTransform, Takes, Area}
 use Rattle.passes.specs.Pairs.{endedRow, PairBack}
-use Rattle.lifting.proofs.Stages.{ended-behind, ended-first, ended-second, ended-first-local, ended-second-local, begun-first, begun-second}
+use Rattle.lifting.proofs.Stages.{ended-behind, ended-first, ended-second, ended-first-local, ended-second-local}
 use Rattle.passes.proofs.Places.{even-place, odd-place}
 use Rattle.passes.proofs.Forms.{even-turn, odd-turn}
 use Rattle.passes.proofs.Running.{takes-agree, column-local}
@@ -196,12 +196,6 @@ module _ {k : Kernel} {m S w n : ℕ} {l l′ : List ℤ} (even : w % 2 ≡ 0) (
   second-left x h = ap₂ (λ (X Y : Line ℤ). endedSecond k (m - n) X Y 0) (left-low even wide p x h) (left-high even wide p x h) ∙ ended-behind k m n _ _ lt
 
 module _ {S w h : ℕ} (k : Kernel) (l l₁ : List ℤ) (z : Area S w h (length l)) (f : Both (begunFirst k (h / 2)) (begunSecond k (h / 2)) 0 S (2 * S) w 0 (h / 2) l l₁) where
-  pub begun-lows : Bounded (2 ^ 28) 0 (2 * S) (h / 2) w l → Bounded (2 ^ 24) S (2 * S) (h / 2) w l → Bounded (2 ^ 29) 0 (2 * S) (h / 2) w l₁
-  begun-lows a b = record { each = λ x q n p. rw (begun-low k l l₁ z f x q n p) (begun-first (h / 2) _ _ (a .each x q) (b .each x q) k n p) }
-
-  pub begun-highs : Bounded (2 ^ 28) 0 (2 * S) (h / 2) w l → Bounded (2 ^ 24) S (2 * S) (h / 2) w l → Bounded (2 ^ 29) S (2 * S) (h / 2) w l₁
-  begun-highs a b = record { each = λ x q n p. rw (begun-high k l l₁ z f x q n p) (begun-second (h / 2) _ _ (a .each x q) (b .each x q) k n p) }
-
   module _ {n : ℕ} {l′ : List ℤ} (p : PairsDone k (h / 2) S w n l₁ l′) (lt : n < h / 2) (all : (y : ℕ) → y < h → Takes true w (colPass (columnTransform true k) w h (picture (pos 0) S l) y)) where
     pub low-row-takes : Takes true w (endedRow false k (h / 2 - n) (2 * n * S) S l′)
     low-row-takes = takes-agree true w _ _ (z .even-w) (λ x q. sym (first-left (z .even-w) (z .wide) p lt x q ∙ ended-even k l l₁ z f n x lt q)) (all (2 * n) (omega arith))

@@ -63,11 +63,11 @@ module _ {stride w h : ℕ} (l : List ℤ) (z : Area stride w h (length l)) wher
   pub some-lanes : 0 < 32768 / h
   some-lanes = by-lt 0 (32768 / h) (λ lt. lt) (λ ge. let t : 32768 / h < 1 = omega arith in absurd (omega (arith, div-lt-iff-lt-mul (z .some-h) .0 t, z .h-most)))
 
-module _ {undo : Bool} {T : Transform ℤ} {stride w h y : ℕ} {l₀ q₀ l q : List ℤ} (z : Area stride w h (length l₀)) (p : RowsPassed (pos 0) T stride w h y l₀ q₀ q₀ l q q) where
-  pub row-takes : ((v : ℕ) → v < h → Takes undo w (picture (pos 0) stride l₀ v)) → y < h → Takes undo (2 * (w / 2)) (strided (pos 0) l (y * stride + 0) 1)
+module _ {T : Transform ℤ} {stride w h y : ℕ} {l₀ q₀ l q : List ℤ} (z : Area stride w h (length l₀)) (p : RowsPassed (pos 0) T stride w h y l₀ q₀ q₀ l q q) where
+  pub row-takes : ((v : ℕ) → v < h → Takes false w (picture (pos 0) stride l₀ v)) → y < h → Takes false (2 * (w / 2)) (strided (pos 0) l (y * stride + 0) 1)
   row-takes all lt =
       let e : 2 * (w / 2) ≡ w = omega (arith, z .even-w) in
-      rw e (takes-agree undo w (picture (pos 0) stride l₀ y) _ (z .even-w)
+      rw e (takes-agree false w (picture (pos 0) stride l₀ y) _ (z .even-w)
       (λ i h. sym (ap (λ n. getD l n (pos 0)) (omega arith) ∙ sym (cell (pos 0) stride l y i (omega (arith, z .wide)))
       ∙ ap (λ (P : Picture ℤ). P y i) (p .passed) ∙ ap (λ (X : Line ℤ). X i) (pass-past T w y y (picture (pos 0) stride l₀) (omega arith))))
       (all y lt))
@@ -145,15 +145,15 @@ module _ {stride w h : ℕ} (l : List ℤ) (z : Area stride w h (length l)) wher
     }
 
   -- all columns at once
-  columns-passed : (undo : Bool) (k : Kernel) (l′ : List ℤ) → Lines (columnTransform undo k) (pos 0) 0 stride (2 * (h / 2)) w l l′ → picture (pos 0) stride l′ ≡ colPass (columnTransform undo k) w h (picture (pos 0) stride l)
-  columns-passed undo k l′ f =
-      let T = columnTransform undo k in let Q = turned (picture (pos 0) stride l) in
+  columns-passed : (k : Kernel) (l′ : List ℤ) → Lines (columnTransform false k) (pos 0) 0 stride (2 * (h / 2)) w l l′ → picture (pos 0) stride l′ ≡ colPass (columnTransform false k) w h (picture (pos 0) stride l)
+  columns-passed k l′ f =
+      let T = columnTransform false k in let Q = turned (picture (pos 0) stride l) in
       let e : 2 * (h / 2) ≡ h = omega (arith, z .even-h) in let d : 0 + w ≡ w = omega arith in
       let g : Lines T (pos 0) 0 stride h w l l′ = subst (λ (n : ℕ). Lines T (pos 0) 0 stride n w l l′) e f in
-      ap turned (col-more (pos 0) stride T (column-local undo k) l l′ h 0 w Q (z .even-h) (omega (arith, z .wide)) g (pass-none T h Q) ∙ ap (λ (n : ℕ). rowPass T h n Q) d)
+      ap turned (col-more (pos 0) stride T (column-local false k) l l′ h 0 w Q (z .even-h) (omega (arith, z .wide)) g (pass-none T h Q) ∙ ap (λ (n : ℕ). rowPass T h n Q) d)
 
   pub forward-columns : (k : Kernel) (l′ : List ℤ) → Both (lowsOf k (h / 2)) (highsOf k (h / 2)) 0 (h / 2 * stride) stride w 0 (h / 2) l l′
       → picture (pos 0) stride l′ ≡ colPass (columnTransform false k) w h (picture (pos 0) stride l)
   forward-columns k l′ f =
       let e : h / 2 * stride ≡ 0 + h / 2 * stride = omega arith in
-      columns-passed false k l′ (forward-form k (h / 2) w l l′ 0 stride (subst (λ (b : ℕ). Both (lowsOf k (h / 2)) (highsOf k (h / 2)) 0 b stride w 0 (h / 2) l l′) e f))
+      columns-passed k l′ (forward-form k (h / 2) w l l′ 0 stride (subst (λ (b : ℕ). Both (lowsOf k (h / 2)) (highsOf k (h / 2)) 0 b stride w 0 (h / 2) l l′) e f))

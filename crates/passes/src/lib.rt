@@ -36,23 +36,15 @@ fn row(kernel: Kernel, undo: bool, l: &mut [i32], q: &mut [i32], at: usize, m: u
     }
 }
 
-// The row pass over an area of w by h, in rows of stride numbers.
-pub fn row_pass(
-    kernel: Kernel,
-    undo: bool,
-    l: &mut [i32],
-    q: &mut [i32],
-    stride: usize,
-    w: usize,
-    h: usize,
-)
+// The row pass over an area of w by h, forward, in rows of stride numbers.
+pub fn row_pass(kernel: Kernel, l: &mut [i32], q: &mut [i32], stride: usize, w: usize, h: usize)
     requires { ⌜ Area stride w h (length (now l)) ⌝ }
     requires { ⌜ w ≤ length (now q) ⌝ }
-    requires { ⌜ ((y : ℕ) → y < h → Takes undo w (picture (pos 0) stride (now l) y)) ⌝ }
-    ensures { λ _. ⌜ picture (pos 0) stride (now (l .exit)) ≡ rowPass (lineTransform undo kernel) w h (picture (pos 0) stride (now (l .entry))) ⌝ }
+    requires { ⌜ ((y : ℕ) → y < h → Takes false w (picture (pos 0) stride (now l) y)) ⌝ }
+    ensures { λ _. ⌜ picture (pos 0) stride (now (l .exit)) ≡ rowPass (lineTransform false kernel) w h (picture (pos 0) stride (now (l .entry))) ⌝ }
 {
     for y in 0..h {
-        row(kernel, undo, l, q, y * stride, w / 2);
+        row(kernel, false, l, q, y * stride, w / 2);
     }
 }
 
@@ -88,7 +80,7 @@ pub fn col_pass(kernel: Kernel, l: &mut [i32], q: &mut [i32], stride: usize, w: 
     let most = STRIP / h;
     let mut x: usize = 0;
     while x < w {
-        let lanes = lifting::least(most, w - x);
+        let lanes = whole::least(most, w - x);
         strip(kernel, l, q, x, stride, h / 2, lanes);
         x += lanes;
     }

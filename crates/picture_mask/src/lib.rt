@@ -51,13 +51,6 @@ fn columns(
     transfer::bytes::put(strip, buf, start, stride, n, lanes);
 }
 
-// The smaller of two numbers.
-fn least(x: usize, y: usize) -> usize
-    ensures { λ r. ⌜ r ≡ min x y ⌝ }
-{
-    if x < y { x } else { y }
-}
-
 // The column pass over the same area, a strip of columns at a time: as many as the working memory holds.
 fn col_pass(kernel: Kernel, buf: &mut [u8], strip: &mut [u8], stride: usize, w: usize, h: usize)
     requires { ⌜ Area stride w h (now buf) ⌝ }
@@ -67,7 +60,7 @@ fn col_pass(kernel: Kernel, buf: &mut [u8], strip: &mut [u8], stride: usize, w: 
     let most = 32768 / h;
     let mut x: usize = 0;
     while x < w {
-        let lanes = least(most, w - x);
+        let lanes = whole::least(most, w - x);
         columns(kernel, buf, strip, x, stride, h, lanes);
         x += lanes;
     }

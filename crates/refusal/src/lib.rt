@@ -5,6 +5,7 @@ ghost use lib.Dec.{leb};
 ghost use lib.IntN.{natAbs};
 ghost use Rattle.refusal.specs.Numbers.{refusalNumber, answerNumber};
 ghost use Rattle.refusal.specs.Tests as tests;
+ghost use Rattle.refusal.specs.Parts.{partSize, partStart};
 
 // Refusals 1 to 16, in the order of their numbers (docs/FORMAT.md, "Refusals").
 pub enum Refusal {
@@ -100,7 +101,24 @@ pub fn bad_size_at(levels: usize, w: usize, h: usize) -> bool
     bad_size(w, h) | (w % unit != 0) | (h % unit != 0)
 }
 
-// The scans go through every cell, so that the compiler can test many at a time.
+// The scans go through every cell, so that the compiler can test many at a time, and through four parts of their buffer side by side, so that
+// memory brings a line of each at a time.
+
+// How many cells each of four parts of n cells has; they may overlap.
+fn part_size(n: usize) -> usize
+    ensures { λ r. ⌜ r ≡ partSize n ⌝ }
+{
+    whole::least(n / 4 + 1, n)
+}
+
+// Where part p begins: behind the part before it, if it then ends inside.
+fn part_start(n: usize, p: usize) -> usize
+    requires { ⌜ p < 4 ⌝ }
+    ensures { λ r. ⌜ r ≡ partStart n p ⌝ }
+{
+    let size = part_size(n);
+    whole::least(p * size, n - size)
+}
 
 // A sample is above 2^depth - 1.
 pub fn bad_sample(depth: usize, samples: &[u16]) -> bool
@@ -108,9 +126,15 @@ pub fn bad_sample(depth: usize, samples: &[u16]) -> bool
     ensures { λ r. ⌜ r ≡ tests.badSample depth (now (samples .entry)) ⌝ }
 {
     let top = (power(depth) - 1) as u16;
+    let b = part_start(samples.len(), 1);
+    let c = part_start(samples.len(), 2);
+    let d = part_start(samples.len(), 3);
     let mut bad = false;
-    for i in 0..samples.len() {
-        bad = bad | (top < samples[i]);
+    for i in 0..part_size(samples.len()) {
+        bad = bad
+            | ((top < samples[i])
+                | (top < samples[b + i])
+                | ((top < samples[c + i]) | (top < samples[d + i])));
     }
     bad
 }
@@ -119,9 +143,13 @@ pub fn bad_sample(depth: usize, samples: &[u16]) -> bool
 pub fn bad_mark(marks: &[u8]) -> bool
     ensures { λ r. ⌜ r ≡ tests.badMark (now (marks .entry)) ⌝ }
 {
+    let b = part_start(marks.len(), 1);
+    let c = part_start(marks.len(), 2);
+    let d = part_start(marks.len(), 3);
     let mut bad = false;
-    for i in 0..marks.len() {
-        bad = bad | (1 < marks[i]);
+    for i in 0..part_size(marks.len()) {
+        bad = bad
+            | ((1 < marks[i]) | (1 < marks[b + i]) | ((1 < marks[c + i]) | (1 < marks[d + i])));
     }
     bad
 }
@@ -137,10 +165,13 @@ fn large(c: i32) -> bool
 pub fn bad_magnitude(plane: &[i32]) -> bool
     ensures { λ r. ⌜ r ≡ tests.badMagnitude (now (plane .entry)) ⌝ }
 {
+    let b = part_start(plane.len(), 1);
+    let c = part_start(plane.len(), 2);
+    let d = part_start(plane.len(), 3);
     let mut bad = false;
-    for i in 0..plane.len() {
-        let c = plane[i];
-        bad = bad | large(c);
+    for i in 0..part_size(plane.len()) {
+        bad = bad
+            | (large(plane[i]) | large(plane[b + i]) | (large(plane[c + i]) | large(plane[d + i])));
     }
     bad
 }

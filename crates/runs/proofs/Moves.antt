@@ -23,7 +23,7 @@ use Rattle.steps.specs.Moved.{moved}
 use Rattle.runs.specs.Cells.{Written}
 use Rattle.runs.specs.Steps.{amountAt, Apart, Room, tapBound, Near}
 use Rattle.runs.specs.declared.Step.{Step}
-use Rattle.runs.specs.declared.Step.the-variants.{SPlusP, TT, WideTT, High, Low}
+use Rattle.runs.specs.declared.Step.the-variants.{SPlusP, TT, High, Low}
 use Rattle.runs.specs.declared.Taps.{Taps}
 use Rattle.runs.proofs.Writes.{written-none, written-more, written-all, written-kept}
 
@@ -69,7 +69,6 @@ module _ {add : Bool} {amount : ℕ → ℤ} {p : Taps} {n k : ℕ} {l l′ : Li
   pub amount-kept : (s : Step) → amountAt s l′ p k ≡ amountAt s l p k
   amount-kept SPlusP = ap₂ slopeA before after
   amount-kept TT = rw (before2, before, after, after2)
-  amount-kept WideTT = rw (before2, before, after, after2)
   amount-kept High = ap₂ between here after
   amount-kept Low = ap₂ smoothing before here
 

@@ -1,6 +1,6 @@
 -- Lifting steps on a run of n numbers of a buffer: each is moved by an amount that is computed from other numbers of the buffer.
 --
---   Step                == the step of kernel 1, that of kernel 2 forward and back, and the two of kernel 3, for its highs and for its lows
+--   Step                == the step of kernel 1, that of kernel 2, and the two of kernel 3, for its highs and for its lows
 --   Taps                == where the run begins, and where the numbers that it is moved from begin: those of the same place in their part,
 --                          two before, one before, one after and two after
 --   amountAt s l p k    == the amount at the k-th number of the run
@@ -25,13 +25,12 @@ use Rattle.line.specs.Cells.{cell}
 use Rattle.line.specs.Formulas.{slopeA, slopeTT, between, smoothing}
 use Rattle.steps.specs.Moved.{moved}
 use Rattle.runs.specs.declared.Step.{Step}
-use Rattle.runs.specs.declared.Step.the-variants.{SPlusP, TT, WideTT, High, Low}
+use Rattle.runs.specs.declared.Step.the-variants.{SPlusP, TT, High, Low}
 use Rattle.runs.specs.declared.Taps.{Taps}
 
 abbrev pub amountAt : Step → List ℤ → Taps → ℕ → ℤ
 amountAt SPlusP l p k = slopeA (cell l (p .before + k)) (cell l (p .after + k))
 amountAt TT l p k = slopeTT (cell l (p .before2 + k)) (cell l (p .before + k)) (cell l (p .after + k)) (cell l (p .after2 + k))
-amountAt WideTT l p k = slopeTT (cell l (p .before2 + k)) (cell l (p .before + k)) (cell l (p .after + k)) (cell l (p .after2 + k))
 amountAt High l p k = between (cell l (p .here + k)) (cell l (p .after + k))
 amountAt Low l p k = smoothing (cell l (p .before + k)) (cell l (p .here + k))
 
@@ -56,8 +55,7 @@ pub record Room (p : Taps) (n : ℕ) (l : List ℤ) : Type 0 where
 
 abbrev pub tapBound : Step → ℕ
 tapBound SPlusP = 2 ^ 29
-tapBound TT = 5 * 2 ^ 22
-tapBound WideTT = 2 ^ 28
+tapBound TT = 2 ^ 28
 tapBound High = 2 ^ 29
 tapBound Low = 2 ^ 29
 

@@ -10,11 +10,10 @@ ghost use Rattle.runs.specs.Cells.{Written, Pairs};
 ghost use Rattle.runs.specs.Steps.{movedAt, Apart, Room, Near, Stays};
 ghost use Rattle.runs.specs.declared.Step.the-variants as step;
 
-// A lifting step: that of kernel 1, that of kernel 2 forward and back, and the two of kernel 3, for its highs and for its lows.
+// A lifting step: that of kernel 1, that of kernel 2, and the two of kernel 3, for its highs and for its lows.
 pub enum Step {
     SPlusP,
     TT,
-    WideTT,
     High,
     Low,
 }
@@ -91,23 +90,6 @@ fn run_tt(l: &mut [i32], p: Taps, n: usize, add: bool)
     }
 }
 
-fn run_tt_wide(l: &mut [i32], p: Taps, n: usize, add: bool)
-    requires { ⌜ Room p n (now l) ⌝ }
-    requires { ⌜ Near step.WideTT (now l) p n ⌝ }
-    requires { ⌜ Stays step.WideTT add (now l) p n ⌝ }
-    ensures { λ _. ⌜ Written (movedAt step.WideTT add (now (l .entry)) p) (p .at) n (now (l .entry)) (now (l .exit)) ⌝ }
-{
-    let at = p.at;
-    let b2 = p.before2;
-    let b = p.before;
-    let a = p.after;
-    let a2 = p.after2;
-    for k in 0..n {
-        let amount = steps::slope_tt_wide(l[b2 + k], l[b + k], l[a + k], l[a2 + k]);
-        l[at + k] = steps::shifted(l[at + k], amount, add);
-    }
-}
-
 fn run_high(l: &mut [i32], p: Taps, n: usize, add: bool)
     requires { ⌜ Room p n (now l) ⌝ }
     requires { ⌜ Near step.High (now l) p n ⌝ }
@@ -148,7 +130,6 @@ pub fn run(s: Step, l: &mut [i32], p: Taps, n: usize, add: bool)
     match s {
         Step::SPlusP => run_a(l, p, n, add),
         Step::TT => run_tt(l, p, n, add),
-        Step::WideTT => run_tt_wide(l, p, n, add),
         Step::High => run_high(l, p, n, add),
         Step::Low => run_low(l, p, n, add),
     }

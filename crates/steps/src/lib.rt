@@ -36,28 +36,17 @@ pub fn slope_a(before: i32, after: i32) -> i32
     whole::floor4(before - after)
 }
 
-// 22 of the inner difference and 3 of the outer, by products that need no multiplication: 3 · (7 · inner + outer) + inner.
+// 22 of the inner difference and 3 of the outer, less 32, over 64: divided by 2, by 4 and by 8, and what is a multiple of the divisor goes past
+// each division, so that no sum leaves 32 bits.
 pub fn slope_tt(before2: i32, before: i32, after: i32, after2: i32) -> i32
-    requires { ⌜ Within (5 * 2 ^ 22) before2 × Within (5 * 2 ^ 22) before ⌝ }
-    requires { ⌜ Within (5 * 2 ^ 22) after × Within (5 * 2 ^ 22) after2 ⌝ }
-    ensures { λ r. ⌜ r ≡ formula.slopeTT before2 before after after2 ⌝ }
-{
-    let inner = before - after;
-    let outer = after2 - before2;
-    whole::floor64(3 * (7 * inner + outer) + inner - 32)
-}
-
-// The same for larger numbers: 22 times a multiple of 32 is 11 times a multiple of 64, which the division takes off.
-pub fn slope_tt_wide(before2: i32, before: i32, after: i32, after2: i32) -> i32
     requires { ⌜ Within (2 ^ 28) before2 × Within (2 ^ 28) before ⌝ }
     requires { ⌜ Within (2 ^ 28) after × Within (2 ^ 28) after2 ⌝ }
     ensures { λ r. ⌜ r ≡ formula.slopeTT before2 before after after2 ⌝ }
 {
     let inner = before - after;
     let outer = after2 - before2;
-    let q = whole::floor32(inner);
-    let rest = inner - 32 * q;
-    11 * q + whole::floor64(3 * (7 * rest + outer) + rest - 32)
+    let rest = whole::floor4(whole::floor2(outer) + outer - inner);
+    whole::floor8(3 * inner - 4 + rest)
 }
 
 pub fn between(here: i32, after: i32) -> i32

@@ -35,7 +35,7 @@ fn rows(
     ensures { λ _. ⌜ coefficientsOf stride (now (l .exit)) ≡ walk (line.forward kernel) levels w h (coefficientsOf stride (now (l .entry))) ⌝ }
 {
     if 0 < levels {
-        passes::row_pass(kernel, false, l, q, stride, w, h);
+        passes::row_pass(kernel, l, q, stride, w, h);
         cols(kernel, l, q, stride, w, h, levels);
     }
 }

@@ -1,5 +1,6 @@
-// Floor division of signed numbers by 2, 4, 32 and 64, from the language's division of unsigned ones; and magnitudes.
+// Floor division of signed numbers by 2, 4 and 8, from the language's division of unsigned ones; magnitudes; the smaller of two numbers.
 ghost use mathlib.Core.Path.{_≡_};
+ghost use Prim.Native.Nat.{min};
 ghost use lib.IntN.{natAbs};
 ghost use Rattle.whole.specs.Floor.{floorDiv};
 
@@ -16,16 +17,10 @@ pub fn floor4(x: i32) -> i32
     ((x as i64 + 2147483648) as u32 / 4) as i32 - 536870912
 }
 
-pub fn floor32(x: i32) -> i32
-    ensures { λ r. ⌜ r ≡ floorDiv x 32 ⌝ }
+pub fn floor8(x: i32) -> i32
+    ensures { λ r. ⌜ r ≡ floorDiv x 8 ⌝ }
 {
-    ((x as i64 + 2147483648) as u32 / 32) as i32 - 67108864
-}
-
-pub fn floor64(x: i32) -> i32
-    ensures { λ r. ⌜ r ≡ floorDiv x 64 ⌝ }
-{
-    ((x as i64 + 2147483648) as u32 / 64) as i32 - 33554432
+    ((x as i64 + 2147483648) as u32 / 8) as i32 - 268435456
 }
 
 // The magnitude of a number.
@@ -37,4 +32,11 @@ pub fn magnitude(x: i32) -> u64
     } else {
         x as u64
     }
+}
+
+// The smaller of two numbers.
+pub fn least(x: usize, y: usize) -> usize
+    ensures { λ r. ⌜ r ≡ min x y ⌝ }
+{
+    if x < y { x } else { y }
 }

@@ -2,7 +2,7 @@
 use mathlib.Core.Bool.{true, false}
 use native.Mathlib.Omega.{arith}
 use borrow.Author.Needs.{needs}
-use Rattle.runs.specs.declared.Step.the-variants.{SPlusP, WideTT, Low}
+use Rattle.runs.specs.declared.Step.the-variants.{SPlusP, TT, Low}
 use Rattle.lifting.proofs.Rows.{parts-swap, bounded-more}
 use Rattle.lifting.proofs.Stages.{lift-fit, both-none, step-first, step-second}
 use Rattle.lifting.proofs.begin_back.Statement.{statement}
@@ -15,7 +15,7 @@ begin-back-spec =
     (λ c. search needs)
     (λ c κs. let s = c .before .before .before in let x = s .pre .1 .0 in let y = s .pre .1 .1 in (parts-swap (s .pre .0), (bounded-more x (omega arith), lift-fit SPlusP true y x tt)))
     (λ c. search needs)
-    (λ c κs. let s = c .before .before .before in let x = s .pre .1 .0 in let y = s .pre .1 .1 in (parts-swap (s .pre .0), (x, lift-fit WideTT true y x tt)))
+    (λ c κs. let s = c .before .before .before in let x = s .pre .1 .0 in let y = s .pre .1 .1 in (parts-swap (s .pre .0), (x, lift-fit TT true y x tt)))
     (λ c. search needs)
     (λ c κs. let s = c .before .before .before in let x = s .pre .1 .0 in let y = s .pre .1 .1 in (s .pre .0, (bounded-more y (omega arith), lift-fit Low false x y tt)))
     (λ c. let a = c .before .before .args in rw (c .enum-told .given .1) (both-none (a .a) (a .b) (a .step) (a .lanes) (a .m) (a .l .now)))

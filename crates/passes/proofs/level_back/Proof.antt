@@ -5,8 +5,9 @@ use native.Mathlib.Omega.{arith}
 use borrow.Author.Needs.{needs}
 use lib.ListN.{length}
 use Rattle.lifting.proofs.Rows.{parts-as}
+use Rattle.lifting.proofs.Stages.{begun-lows, begun-highs}
 use Rattle.passes.proofs.Running.{turn-parts, low-rows, high-rows}
-use Rattle.passes.proofs.Pairs.{PairsDone, pairs-none, pairs-more, parts-left, lows-left, highs-left, begun-lows, begun-highs, low-row-takes, high-row-takes, level-done}
+use Rattle.passes.proofs.Pairs.{PairsDone, pairs-none, pairs-more, parts-left, lows-left, highs-left, low-row-takes, high-row-takes, level-done}
 use Rattle.passes.proofs.level_back.Statement.{statement}
 use Rattle.passes.proofs.level_back.Tie as tie
 
@@ -33,9 +34,9 @@ level-back-spec =
       (
         (z .even-w, z .w-most, omega (arith, i .1, s .pre .1 .0), z .wide),
         (
-          lows-left (z .even-w) (z .wide) (i .2) lt (begun-lows (a .kernel) (a .l .now) l₁ z f x y),
+          lows-left (z .even-w) (z .wide) (i .2) lt (begun-lows (a .kernel) f x y),
           (
-            highs-left (z .even-w) (z .wide) (i .2) lt (begun-highs (a .kernel) (a .l .now) l₁ z f x y),
+            highs-left (z .even-w) (z .wide) (i .2) lt (begun-highs (a .kernel) f x y),
             (
               low-row-takes (a .kernel) (a .l .now) l₁ z f (i .2) lt (s .pre .1 .1 .1),
               high-row-takes (a .kernel) (a .l .now) l₁ z f (i .2) lt (s .pre .1 .1 .1),

@@ -1,5 +1,6 @@
 -- `passes::row_pass` transforms the rows of an area. The loop's invariant: the first y rows are transformed. Assumes nothing.
 use mathlib.Core.Path.{_≡_, ap, _∙_}
+use mathlib.Core.Bool.{false}
 use Prim.Native.Nat.{_*_, _-_, _<_}
 use native.Mathlib.Omega.{arith}
 use lib.Arith.{digits-lt}
@@ -13,10 +14,10 @@ use Rattle.passes.proofs.row_pass.Statement.{statement}
 use Rattle.passes.proofs.row_pass.Tie as tie
 
 abbrev Inv-loop : tie.InvT-loop
-Inv-loop kernel undo l₀ q₀ stride w h y₀ l q y = RowsPassed (pos 0) (lineTransform undo kernel) stride w h y l₀ q₀ q₀ l q q
+Inv-loop kernel l₀ q₀ stride w h y₀ l q y = RowsPassed (pos 0) (lineTransform false kernel) stride w h y l₀ q₀ q₀ l q q
 
 abbrev μ-loop : tie.MeasureT-loop
-μ-loop kernel undo l₀ q₀ stride w h y₀ l q y = h - y
+μ-loop kernel l₀ q₀ stride w h y₀ l q y = h - y
 
 pub row-pass-spec : {M : Type 1} → statement M
 row-pass-spec =
@@ -29,7 +30,7 @@ row-pass-spec =
     (row-half (c .before .before .before .loop .l) z (omega (arith, s .pre .1 .0, i .same-a)), (row-in (c .before .before .before .loop .l) z (c .before .before .before .loop .y) (c .before .before .loop-test .taken), row-takes (s .pre .0) i (s .pre .1 .1) (c .before .before .loop-test .taken))))
     (λ c. omega arith)
     (λ c. omega arith)
-    (λ c. let s = c .before .before .before .before .before .before .before in let i = c .before .before .before .before .before .before .loop .inv in rows-more (line-local (s .args .undo) (s .args .kernel)) (s .pre .0 .even-w) (s .pre .0 .wide) i (c .before .before .before .before .before .loop-test .taken) (c .before .before .row .ensures) (c .before .before .row .kept .1 .1 .1 .0) (c .before .before .row .kept .1 .1 .1 .0))
+    (λ c. let s = c .before .before .before .before .before .before .before in let i = c .before .before .before .before .before .before .loop .inv in rows-more (line-local false (s .args .kernel)) (s .pre .0 .even-w) (s .pre .0 .wide) i (c .before .before .before .before .before .loop-test .taken) (c .before .before .row .ensures) (c .before .before .row .kept .1 .1 .1 .0) (c .before .before .row .kept .1 .1 .1 .0))
     (λ c. c .before .loop .inv .same-l)
     (λ c. c .before .loop .inv .same-a)
     (λ c. let i = c .before .loop .inv in let e : c .before .loop .y ≡ c .before .before .args .h = omega (arith, i .count) in rw e at (i .passed)))

@@ -53,10 +53,10 @@ pub +cols+rows-spec : {M : Type 1} → statement M
     (λ c. let a = c .before .before .before .before .before .before .before .before .before .before .args in c .before .before .rows .ensures ∙ ap (walk (forward (a .kernel)) (a .levels - 1) (lowSide (a .w)) (lowSide (a .h))) (c .before .before .before .before .before .before .before .col-pass .ensures)))
     (λ t. rows-lts.spec (row-pass-reads.Asked, row-pass-reads.Learnt, cols-below t, cols.Post) (rows-at t) rows.Post
     (λ c κs. let s = c .before .before .before in let z = s .pre .1 .0 in let n = c .before .before .if1 .taken in (level-area z n, (omega (arith, z .w-most, s .pre .1 .1 .0), rows-take n (z .few) (s .pre .1 .1 .1))))
-    (λ c κs. let s = c .before .before .before .before .before .before .before .before in let z = s .pre .1 .0 in let n = c .before .before .before .before .before .before .before .if1 .taken in let p = c .before .before .before .before .row-pass in let k = p .kept .1 .1 in
+    (λ c κs. let s = c .before .before .before .before .before .before .before .before in let z = s .pre .1 .0 in let n = c .before .before .before .before .before .before .before .if1 .taken in let p = c .before .before .before .before .row-pass in let k = p .kept .1 in
     (omega (arith, s .pre .0), (n, (levels-same z (k .0), (omega (arith, k .1 .0, s .pre .1 .1 .0), walking.rows-below n (z .few) (s .args .kernel) (level-area z n .even-w) (s .pre .1 .1 .1) (p .ensures))))))
-    (λ c. c .before .before .cols .kept .1 .0 ∙ c .before .before .before .before .before .before .before .row-pass .kept .1 .1 .0)
-    (λ c. c .before .before .cols .kept .1 .1 .0 ∙ c .before .before .before .before .before .before .before .row-pass .kept .1 .1 .1 .0)
+    (λ c. c .before .before .cols .kept .1 .0 ∙ c .before .before .before .before .before .before .before .row-pass .kept .1 .0)
+    (λ c. c .before .before .cols .kept .1 .1 .0 ∙ c .before .before .before .before .before .before .before .row-pass .kept .1 .1 .0)
     (λ c. let a = c .before .before .before .before .before .before .before .before .before .before .before .args in let T = forward (a .kernel) in
     c .before .before .cols .ensures ∙ ap (λ (P : Picture ℤ). walk T (a .levels - 1) (lowSide (a .w)) (lowSide (a .h)) (colPass T (a .w) (a .h) P)) (c .before .before .before .before .before .before .before .row-pass .ensures)
     ∙ sym (walk-more T (a .levels) (a .w) (a .h) (coefficientsOf (a .stride) (a .l .now)) (c .before .before .before .before .before .before .before .before .before .before .if1 .taken)))
