@@ -6,4 +6,4 @@ pub mod Outside
 pub mod Back
 pub mod Covered
 pub mod Parted
-pub mod Gathered
+pub mod Alike

@@ -99,9 +99,6 @@ module _ {A : Type 0} (T U : Transform A) (local : Local T) where
       ∙ sym (pass-in (λ v X. T v (U v X)) w h y P lt))
       (λ ge. pass-past T w h y (rowPass U w h P) ge ∙ pass-past U w h y P ge ∙ sym (pass-past (λ v X. T v (U v X)) w h y P ge))
 
-  pub cols-compose : (w h : ℕ) (P : Picture A) → h % 2 ≡ 0 → colPass T w h (colPass U w h P) ≡ colPass (λ v X. T v (U v X)) w h P
-  cols-compose w h P even = ap turned (pass-compose h w (turned P) even)
-
 -- ---- passes over lines that are parted
 module _ {A : Type 0} (T : Transform A) (local : Local T) where
   pub rows-on-parted : (w h : ℕ) (P : Picture A) → w % 2 ≡ 0 → rowPass (onWoven T) w h (rowPass parted w h P) ≡ rowPass T w h P

@@ -3,15 +3,11 @@
 --   parted w X      == the line of w cells with its evens in front and its odds behind
 --   woven w Y       == the line again, from its evens in front and its odds behind
 --   onWoven T w Y   == T of the line that is parted in Y
---   onParted T w X  == T of X parted
 --   placed w h P    == the upper left area of w by h with its rows and columns parted
---   gathered n w h P
---                   == the coefficients of n levels in their order, from a picture P in which each row of them stands where its row belongs after
---                      the way back: at each level the highs between the lows
 --
 -- Assumes nothing: these are definitions.
-use Prim.Native.Nat.{ℕ, zero, suc}
-use Rattle.line.specs.Cells.{Line, evens, odds, behind, joined, paired}
+use Prim.Native.Nat.{ℕ}
+use Rattle.line.specs.Cells.{evens, odds, behind, joined, paired}
 use Rattle.grid.specs.Picture.{Picture, Transform, rowPass, colPass, lowSide}
 
 unfoldable pub parted : {A : Type 0} → Transform A
@@ -23,12 +19,5 @@ woven w Y = paired Y (behind (lowSide w) Y)
 abbrev pub onWoven : {A : Type 0} → Transform A → Transform A
 onWoven T w Y = T w (woven w Y)
 
-abbrev pub onParted : {A : Type 0} → Transform A → Transform A
-onParted T w X = T w (parted w X)
-
 abbrev pub placed : {A : Type 0} → ℕ → ℕ → Picture A → Picture A
 placed w h P = colPass parted w h (rowPass parted w h P)
-
-unfoldable pub gathered : {A : Type 0} → ℕ → ℕ → ℕ → Picture A → Picture A
-gathered zero w h P = P
-gathered (suc n) w h P = gathered n (lowSide w) (lowSide h) (colPass parted w h P)

@@ -6,13 +6,12 @@ use native.Mathlib.Nat.{add-mul, one-mul, div-add-mod', mod-lt, div-lt-iff-lt-mu
 use native.Mathlib.Omega.{arith}
 use lib.Arith.{digits-lt, digits-div}
 use lib.IntN.{ℤ}
-use lib.ListN.{length}
 use Rattle.whole.specs.Within.{Within}
-use Rattle.line.specs.Cells.{Line, cell}
+use Rattle.line.specs.Cells.{cell}
 use Rattle.line.proofs.Bounds.{within-more}
 use Rattle.line.proofs.Cells.{by-lt}
-use Rattle.runs.specs.Cells.{Written, Pairs}
-use Rattle.lifting.specs.Parts.{lane, In, Parts, Bounded, Rows, Both}
+use Rattle.runs.specs.Cells.{Written}
+use Rattle.lifting.specs.Parts.{lane, In, Parts, Bounded, Rows}
 use Rattle.lifting.specs.Steps.{EndToEnd}
 
 -- ---- places

@@ -8,6 +8,7 @@
 --   Pairable join .. l    == that for the rows d up to e of the parts at a and b
 --   predicted s M A B     == the differences, less the amounts of step s from the means
 --   again s M A B         == the highs B, with the amounts of step s from the lows A
+--   Begins k .. d e l     == what the first step of kernel k's way back takes, on rows d up to e: the part that it looks at, and those rows of the other
 --   begunFirst k M A B    == the way back, its first step done: the first part, from the lows A and the highs B
 --   begunSecond k M A B   == the second part
 --   endedFirst k A B      == its last step: the evens, from the parts A and B that the first step leaves
@@ -30,7 +31,7 @@ use Rattle.line.specs.Formulas.{mean, difference, firstOf, secondOf}
 use Rattle.line.specs.Transform.{predict, update, low, high}
 use Rattle.runs.specs.declared.Step.{Step}
 use Rattle.runs.specs.declared.Step.the-variants as step
-use Rattle.lifting.specs.Parts.{lane}
+use Rattle.lifting.specs.Parts.{lane, Bounded}
 use Rattle.lifting.specs.Steps.{amount}
 
 abbrev pub pairFirst : Bool → ℤ → ℤ → ℤ
@@ -59,6 +60,15 @@ predicted s M A B n = difference (A n) (B n) -ℤ amount s M (firsts false A B) 
 
 abbrev pub again : Step → ℕ → Line ℤ → Line ℤ → Line ℤ
 again s M A B n = B n +ℤ amount s M A n
+
+pub record RowsWithin (r a t c d e : ℕ) (l : List ℤ) : Type 0 where
+  pub each : (n j : ℕ) → d ≤ n → n < e → j < c → Within r (lane a t l j n)
+
+abbrev pub Begins : Kernel → ℕ → ℕ → ℕ → ℕ → ℕ → ℕ → ℕ → List ℤ → Type 0
+Begins S a b t m c d e l = Unit
+Begins SPlusP a b t m c d e l = Bounded (2 ^ 28) a t m c l × RowsWithin (2 ^ 24) b t c d e l
+Begins TT a b t m c d e l = Bounded (2 ^ 28) a t m c l × RowsWithin (2 ^ 24) b t c d e l
+Begins FiveThree a b t m c d e l = Bounded (2 ^ 24) b t m c l × RowsWithin (2 ^ 28) a t c d e l
 
 abbrev pub begunFirst : Kernel → ℕ → Line ℤ → Line ℤ → Line ℤ
 begunFirst S M A B = A

@@ -8,7 +8,7 @@ ghost use Rattle.line.specs.Transform as line;
 ghost use Rattle.runs.specs.Steps.{tapBound};
 ghost use Rattle.lifting.specs.Parts.{In, Parts, Bounded, Both};
 ghost use Rattle.lifting.specs.Steps.{lookBack, lookAhead, tapsOf, Straight, EndToEnd, Fit, Lifted};
-ghost use Rattle.lifting.specs.Lines.{firsts, seconds, Pairable, predicted, begunFirst, begunSecond, endedFirst, endedSecond, lowsOf, highsOf};
+ghost use Rattle.lifting.specs.Lines.{firsts, seconds, Pairable, predicted, Begins, begunFirst, begunSecond, endedFirst, endedSecond, lowsOf, highsOf};
 use kernel::Kernel;
 use runs::Step;
 use runs::Taps;
@@ -261,16 +261,8 @@ pub fn forward(
     }
 }
 
-// The first step of the way back, on all rows: what kernels 1 and 2 predict is added to the highs, what kernel 3 adds to the evens is taken off.
-pub fn begin_back(
-    kernel: Kernel,
-    l: &mut [i32],
-    a: usize,
-    b: usize,
-    step: usize,
-    m: usize,
-    lanes: usize,
-)
+// The first step of the way back: what kernels 1 and 2 predict is added to the highs, what kernel 3 adds to the evens is taken off.
+fn begin_all(kernel: Kernel, l: &mut [i32], a: usize, b: usize, step: usize, m: usize, lanes: usize)
     requires { ⌜ Parts a b step m lanes (length (now l)) ⌝ }
     requires { ⌜ Bounded (2 ^ 28) a step m lanes (now l) ⌝ }
     requires { ⌜ Bounded (2 ^ 24) b step m lanes (now l) ⌝ }
@@ -284,30 +276,7 @@ pub fn begin_back(
     }
 }
 
-// The last step of the way back, on the first row: it looks at the rows behind alone.
-pub fn end_back(
-    kernel: Kernel,
-    l: &mut [i32],
-    a: usize,
-    b: usize,
-    step: usize,
-    m: usize,
-    lanes: usize,
-)
-    requires { ⌜ Parts a b step m lanes (length (now l)) ⌝ }
-    requires { ⌜ Bounded (2 ^ 29) a step m lanes (now l) ⌝ }
-    requires { ⌜ Bounded (2 ^ 29) b step m lanes (now l) ⌝ }
-    ensures { λ _. ⌜ Both (endedFirst kernel) (endedSecond kernel m) a b step lanes 0 1 (now (l .entry)) (now (l .exit)) ⌝ }
-{
-    match kernel {
-        Kernel::S => pair_rows(l, a, b, step, m, lanes, 0, 1, true),
-        Kernel::SPlusP => pair_rows(l, a, b, step, m, lanes, 0, 1, true),
-        Kernel::TT => pair_rows(l, a, b, step, m, lanes, 0, 1, true),
-        Kernel::FiveThree => lift_rows(Step::High, l, b, a, step, m, lanes, 0, 1, true),
-    }
-}
-
-// The last step on all rows.
+// The last step.
 fn end_all(kernel: Kernel, l: &mut [i32], a: usize, b: usize, step: usize, m: usize, lanes: usize)
     requires { ⌜ Parts a b step m lanes (length (now l)) ⌝ }
     requires { ⌜ Bounded (2 ^ 29) a step m lanes (now l) ⌝ }
@@ -329,6 +298,54 @@ pub fn back(kernel: Kernel, l: &mut [i32], a: usize, b: usize, step: usize, m: u
     requires { ⌜ Bounded (2 ^ 24) b step m lanes (now l) ⌝ }
     ensures { λ _. ⌜ Both (line.undoneEvens kernel m) (line.undoneOdds kernel m) a b step lanes 0 m (now (l .entry)) (now (l .exit)) ⌝ }
 {
-    begin_back(kernel, l, a, b, step, m, lanes);
+    begin_all(kernel, l, a, b, step, m, lanes);
     end_all(kernel, l, a, b, step, m, lanes);
+}
+
+// The first step on the rows d up to e alone.
+pub fn begin_rows(
+    kernel: Kernel,
+    l: &mut [i32],
+    a: usize,
+    b: usize,
+    step: usize,
+    m: usize,
+    lanes: usize,
+    d: usize,
+    e: usize,
+)
+    requires { ⌜ (d ≤ e) × (e ≤ m) ⌝ }
+    requires { ⌜ Parts a b step m lanes (length (now l)) ⌝ }
+    requires { ⌜ Begins kernel a b step m lanes d e (now l) ⌝ }
+    ensures { λ _. ⌜ Both (begunFirst kernel m) (begunSecond kernel m) a b step lanes d e (now (l .entry)) (now (l .exit)) ⌝ }
+{
+    match kernel {
+        Kernel::S => {}
+        Kernel::SPlusP => lift_each(Step::SPlusP, l, b, a, step, m, lanes, d, e, true),
+        Kernel::TT => lift_each(Step::TT, l, b, a, step, m, lanes, d, e, true),
+        Kernel::FiveThree => lift_each(Step::Low, l, a, b, step, m, lanes, d, e, false),
+    }
+}
+
+// The last step on the first row alone; it looks at the rows behind.
+pub fn end_row(
+    kernel: Kernel,
+    l: &mut [i32],
+    a: usize,
+    b: usize,
+    step: usize,
+    m: usize,
+    lanes: usize,
+)
+    requires { ⌜ Parts a b step m lanes (length (now l)) ⌝ }
+    requires { ⌜ Bounded (2 ^ 29) a step m lanes (now l) ⌝ }
+    requires { ⌜ Bounded (2 ^ 29) b step m lanes (now l) ⌝ }
+    ensures { λ _. ⌜ Both (endedFirst kernel) (endedSecond kernel m) a b step lanes 0 1 (now (l .entry)) (now (l .exit)) ⌝ }
+{
+    match kernel {
+        Kernel::S => pair_rows(l, a, b, step, m, lanes, 0, 1, true),
+        Kernel::SPlusP => pair_rows(l, a, b, step, m, lanes, 0, 1, true),
+        Kernel::TT => pair_rows(l, a, b, step, m, lanes, 0, 1, true),
+        Kernel::FiveThree => lift_rows(Step::High, l, b, a, step, m, lanes, 0, 1, true),
+    }
 }

@@ -1,6 +1,5 @@
--- The lines that a transform of two parts makes, by where the parts stand: one behind the other, or in turn. Assumes nothing.
+-- The lines that a transform of two parts makes, the second part behind the first. Assumes nothing.
 use mathlib.Core.Path.{_≡_, sym, ap, _∙_}
-use mathlib.Core.Bool.{true, false}
 use mathlib.Core.List.{List}
 use Prim.Native.Nat.{ℕ, _+_, _*_, _-_, _/_, _<_}
 use native.Mathlib.Nat.{add-mul}
@@ -15,11 +14,11 @@ use Rattle.line.proofs.Cells.{by-lt, by-parity, joined-low, joined-high, paired
 use Rattle.line.proofs.Local.{low-local, high-local, first-local, second-local}
 use Rattle.grid.specs.Buffer.{strided, Lines}
 use Rattle.grid.specs.Picture.{lowSide}
-use Rattle.grid.specs.Placed.{parted, woven, onWoven, onParted}
+use Rattle.grid.specs.Placed.{parted, woven, onWoven}
 use Rattle.grid.proofs.Parted.{parted-even, parted-odd, woven-even, woven-odd}
 use Rattle.lifting.specs.Parts.{lane, Both}
 use Rattle.lifting.specs.Lines.{lowsOf, highsOf}
-use Rattle.passes.proofs.Places.{even-place, odd-place, high-place}
+use Rattle.passes.proofs.Places.{high-place}
 
 forward-double : (k : Kernel) (m : ℕ) (X : Line ℤ) → forward k (2 * m) X ≡ joined m (low k m X) (high k m X)
 unfolding forward
@@ -86,27 +85,3 @@ module _ (k : Kernel) (m c : ℕ) (l l′ : List ℤ) where
           rw e at q);
       off = λ i no. f .off i (λ n j o h r e. no n j (omega arith) r e) (λ n j o h r e. no (m + n) j (omega arith) r (e ∙ high-place s t n j m));
     }
-
-  -- ---- the parts in turn: highs between lows, t from each other
-  module _ (s t : ℕ) where
-    turn : ℕ → Line ℤ
-    turn j = strided (pos 0) l (s + j) t
-
-    low-in : (j n : ℕ) → n < m → lane s (2 * t) l j n ≡ parted (2 * m) (turn j) n
-    unfolding turn
-    low-in j n h = ap (λ (i : ℕ). getD l i (pos 0)) (even-place s t n j ∙ omega arith) ∙ sym (parted-even (2 * m) n (turn j) (omega (arith, half m)))
-
-    high-in : (j n : ℕ) → lane (s + t) (2 * t) l j n ≡ behind m (parted (2 * m) (turn j)) n
-    unfolding turn
-    high-in j n = ap (λ (i : ℕ). getD l i (pos 0)) (odd-place s t n j ∙ omega arith) ∙ sym (ap (λ (x : ℕ). parted (2 * m) (turn j) (x + n)) (sym (half m)) ∙ parted-odd (2 * m) n (turn j))
-
-    -- a line whose lows and highs stand in turn, taken back
-    pub even-turn : (j i : ℕ) → i < m → onParted (back k) (2 * m) (strided (pos 0) l (s + j) t) (2 * i) ≡ undoneEvens k m (lane s (2 * t) l j) (lane (s + t) (2 * t) l j) i
-    unfolding turn
-    even-turn j i h = sym (first-local m _ _ (parted (2 * m) (turn j)) (behind m (parted (2 * m) (turn j))) (λ x p. low-in j x p) (λ x p. high-in j x) k i h
-        ∙ sym (ap (λ (X : Line ℤ). X (2 * i)) (back-double k m (parted (2 * m) (turn j))) ∙ paired-even _ _ i))
-
-    pub odd-turn : (j i : ℕ) → i < m → onParted (back k) (2 * m) (strided (pos 0) l (s + j) t) (2 * i + 1) ≡ undoneOdds k m (lane s (2 * t) l j) (lane (s + t) (2 * t) l j) i
-    unfolding turn
-    odd-turn j i h = sym (second-local m _ _ (parted (2 * m) (turn j)) (behind m (parted (2 * m) (turn j))) (λ x p. low-in j x p) (λ x p. high-in j x) k i h
-        ∙ sym (ap (λ (X : Line ℤ). X (2 * i + 1)) (back-double k m (parted (2 * m) (turn j))) ∙ paired-odd _ _ i))

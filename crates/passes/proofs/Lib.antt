@@ -5,3 +5,6 @@ pub mod Taking
 pub mod Running
 pub mod Placing
 pub mod Pairs
+pub mod PairPlaces
+pub mod Level
+pub mod Rolling

@@ -13,20 +13,20 @@ use lib.IntN.{ℤ, pos}
 use lib.ListN.{length, getD, List·getD-eq-default}
 use Rattle.kernel.specs.declared.Kernel.{Kernel}
 use Rattle.line.specs.Inner.{Agree, AllWithin}
-use Rattle.line.specs.Cells.{Line, paired}
+use Rattle.line.specs.Cells.{Line}
 use Rattle.line.specs.Transform.{low, high, forward}
 use Rattle.line.proofs.Cells.{by-lt, by-parity}
 use Rattle.line.proofs.Local.{forward-local}
-use Rattle.grid.specs.Picture.{Picture, rowPass, turned, colPass, picture}
+use Rattle.grid.specs.Picture.{rowPass, turned, colPass, picture}
 use Rattle.grid.specs.Placed.{parted, woven}
-use Rattle.grid.proofs.Passes.{cell, cell-past, row-of}
+use Rattle.grid.proofs.Passes.{cell, cell-past}
 use Rattle.grid.proofs.Outside.{row-below, row-right}
 use Rattle.grid.proofs.Parted.{row-cell, cols-parted-cell, source, source-low, source-high, source-lt, woven-even, woven-odd}
 use Rattle.runs.specs.Cells.{Written}
 use Rattle.transfer.specs.Moved.{Places, Twofold}
 use Rattle.lifting.specs.Parts.{lane, Parts, Bounded, Both}
 use Rattle.lifting.specs.Lines.{lowsOf, highsOf}
-use Rattle.passes.specs.Passes.{pictured, Area}
+use Rattle.passes.specs.Passes.{pictured}
 use Rattle.passes.proofs.Forms.{forward-form}
 
 -- ---- one row, parted in place

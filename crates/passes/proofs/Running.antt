@@ -16,22 +16,19 @@ use Rattle.line.proofs.Cells.{by-lt}
 use Rattle.line.proofs.Local.{forward-local, back-local}
 use Rattle.grid.specs.Picture.{Picture, Transform, rowPass, turned, colPass, picture}
 use Rattle.grid.specs.Buffer.{strided, InBuffer, Lines}
+use Rattle.grid.specs.Placed.{woven, onWoven}
 use Rattle.grid.proofs.Passes.{Local, cell, pass-past, pass-none, row-of, col-more}
-use Rattle.grid.proofs.Parted.{parted-even, parted-odd, parted-local, woven-even, woven-odd, on-woven-local}
+use Rattle.grid.proofs.Parted.{woven-even, woven-odd, on-woven-local}
 use Rattle.grid.proofs.Running.{RowsPassed, ColsPassed, row-places, col-places}
 use Rattle.lifting.specs.Parts.{lane, Parts, Bounded, Both}
 use Rattle.lifting.specs.Lines.{lowsOf, highsOf}
-use Rattle.passes.specs.Passes.{lineTransform, order, columnTransform, Takes, Area}
-use Rattle.passes.proofs.Places.{even-place, odd-place, high-place}
+use Rattle.passes.specs.Passes.{lineTransform, Takes, Area}
+use Rattle.passes.proofs.Places.{high-place}
 use Rattle.passes.proofs.Forms.{forward-form}
 
 pub line-local : (undo : Bool) (k : Kernel) → Local (lineTransform undo k)
 line-local false k = λ w X Y even a. forward-local k w X Y even a
 line-local true k = λ w X Y even a. back-local k w X Y even a
-
-pub column-local : (undo : Bool) (k : Kernel) → Local (columnTransform undo k)
-column-local false k = on-woven-local (forward k) (line-local false k)
-column-local true k = λ w X Y even a. back-local k w _ _ even (parted-local w X Y even a)
 
 pub takes-agree : (undo : Bool) (w : ℕ) (X Y : Line ℤ) → w % 2 ≡ 0 → Agree w X Y → Takes undo w X → Takes undo w Y
 takes-agree false w X Y even a t = record { takes = λ i h. rw (← a i h) (t .takes i h) }
@@ -102,58 +99,33 @@ module _ {stride w h : ℕ} (l : List ℤ) (z : Area stride w h (length l)) wher
     apart = λ n j n′ j′ p q p′ q′ e. omega (arith, same-line n (h / 2 + n′) j j′ q q′ (omega (arith, e, high-place 0 stride n′ j′ (h / 2))));
   }
 
-  -- every other row
-  pub turn-parts : Parts 0 stride (2 * stride) (h / 2) w (length l)
-  turn-parts = record {
-    some = omega (arith, z .some-h, z .even-h);
-    few = omega (arith, z .h-most);
-    lines = z .some-w;
-    wide = omega (arith, z .wide);
-    first = record { place = λ n j p q. omega (arith, even-place 0 stride n j, cell-in (2 * n) j (omega arith) q) };
-    second = record { place = λ n j p q. omega (arith, odd-place 0 stride n j, cell-in (2 * n + 1) j (omega arith) q) };
-    apart = λ n j n′ j′ p q p′ q′ e. omega (arith, same-line (2 * n) (2 * n′ + 1) j j′ q q′ (omega (arith, e, even-place 0 stride n j, odd-place 0 stride n′ j′)));
-  }
-
   -- a cell of a column, by its place
   in-column : (x n : ℕ) {i : ℕ} → x < w → i ≡ n * stride + x → getD l i (pos 0) ≡ turned (picture (pos 0) stride l) x n
   in-column x n q e = ap (λ (i : ℕ). getD l i (pos 0)) e ∙ sym (cell (pos 0) stride l n x (omega (arith, z .wide)))
 
-  module _ (all : (x : ℕ) → x < w → Takes false h (order false h (turned (picture (pos 0) stride l) x))) where
+  module _ (all : (x : ℕ) → x < w → Takes false h (woven h (turned (picture (pos 0) stride l) x))) where
     pub even-rows : Bounded (5 * 2 ^ 22) 0 stride (h / 2) w l
     even-rows = record {
-      each = λ x q n p. let e : lane 0 stride l x n ≡ order false h (turned (picture (pos 0) stride l) x) (2 * n) = in-column x n q (omega arith) ∙ sym (woven-even h n (turned (picture (pos 0) stride l) x)) in
+      each = λ x q n p. let e : lane 0 stride l x n ≡ woven h (turned (picture (pos 0) stride l) x) (2 * n) = in-column x n q (omega arith) ∙ sym (woven-even h n (turned (picture (pos 0) stride l) x)) in
           rw e (all x q .takes (2 * n) (omega arith));
     }
 
     pub odd-rows : Bounded (5 * 2 ^ 22) (h / 2 * stride) stride (h / 2) w l
     odd-rows = record {
-      each = λ x q n p. let e : lane (h / 2 * stride) stride l x n ≡ order false h (turned (picture (pos 0) stride l) x) (2 * n + 1) = in-column x (h / 2 + n) q (omega (arith, high-place 0 stride n x (h / 2))) ∙ sym (woven-odd h n (turned (picture (pos 0) stride l) x)) in
+      each = λ x q n p. let e : lane (h / 2 * stride) stride l x n ≡ woven h (turned (picture (pos 0) stride l) x) (2 * n + 1) = in-column x (h / 2 + n) q (omega (arith, high-place 0 stride n x (h / 2))) ∙ sym (woven-odd h n (turned (picture (pos 0) stride l) x)) in
           rw e (all x q .takes (2 * n + 1) (omega (arith, z .even-h)));
     }
 
-  module _ (all : (x : ℕ) → x < w → Takes true h (order true h (turned (picture (pos 0) stride l) x))) where
-    pub low-rows : Bounded (2 ^ 28) 0 (2 * stride) (h / 2) w l
-    low-rows = record {
-      each = λ x q n p. let e : lane 0 (2 * stride) l x n ≡ order true h (turned (picture (pos 0) stride l) x) n = in-column x (2 * n) q (omega (arith, even-place 0 stride n x)) ∙ sym (parted-even h n (turned (picture (pos 0) stride l) x) p) in
-          rw e (all x q .takes .0 n p);
-    }
-
-    pub high-rows : Bounded (2 ^ 24) stride (2 * stride) (h / 2) w l
-    high-rows = record {
-      each = λ x q n p. let e : lane stride (2 * stride) l x n ≡ order true h (turned (picture (pos 0) stride l) x) (h / 2 + n) = in-column x (2 * n + 1) q (omega (arith, odd-place 0 stride n x)) ∙ sym (parted-odd h n (turned (picture (pos 0) stride l) x)) in
-          rw e (all x q .takes .1 n p);
-    }
-
   -- all columns at once
-  columns-passed : (k : Kernel) (l′ : List ℤ) → Lines (columnTransform false k) (pos 0) 0 stride (2 * (h / 2)) w l l′ → picture (pos 0) stride l′ ≡ colPass (columnTransform false k) w h (picture (pos 0) stride l)
+  columns-passed : (k : Kernel) (l′ : List ℤ) → Lines (onWoven (forward k)) (pos 0) 0 stride (2 * (h / 2)) w l l′ → picture (pos 0) stride l′ ≡ colPass (onWoven (forward k)) w h (picture (pos 0) stride l)
   columns-passed k l′ f =
-      let T = columnTransform false k in let Q = turned (picture (pos 0) stride l) in
+      let T = onWoven (forward k) in let Q = turned (picture (pos 0) stride l) in
       let e : 2 * (h / 2) ≡ h = omega (arith, z .even-h) in let d : 0 + w ≡ w = omega arith in
       let g : Lines T (pos 0) 0 stride h w l l′ = subst (λ (n : ℕ). Lines T (pos 0) 0 stride n w l l′) e f in
-      ap turned (col-more (pos 0) stride T (column-local false k) l l′ h 0 w Q (z .even-h) (omega (arith, z .wide)) g (pass-none T h Q) ∙ ap (λ (n : ℕ). rowPass T h n Q) d)
+      ap turned (col-more (pos 0) stride T (on-woven-local (forward k) (line-local false k)) l l′ h 0 w Q (z .even-h) (omega (arith, z .wide)) g (pass-none T h Q) ∙ ap (λ (n : ℕ). rowPass T h n Q) d)
 
   pub forward-columns : (k : Kernel) (l′ : List ℤ) → Both (lowsOf k (h / 2)) (highsOf k (h / 2)) 0 (h / 2 * stride) stride w 0 (h / 2) l l′
-      → picture (pos 0) stride l′ ≡ colPass (columnTransform false k) w h (picture (pos 0) stride l)
+      → picture (pos 0) stride l′ ≡ colPass (onWoven (forward k)) w h (picture (pos 0) stride l)
   forward-columns k l′ f =
       let e : h / 2 * stride ≡ 0 + h / 2 * stride = omega arith in
       columns-passed k l′ (forward-form k (h / 2) w l l′ 0 stride (subst (λ (b : ℕ). Both (lowsOf k (h / 2)) (highsOf k (h / 2)) 0 b stride w 0 (h / 2) l l′) e f))

@@ -4,22 +4,21 @@
 --
 -- Assumes nothing.
 use mathlib.Core.Path.{_≡_, sym, ap, subst, _∙_}
-use mathlib.Core.Bool.{Bool, true, false}
+use mathlib.Core.Bool.{true, false}
 use mathlib.Core.List.{List}
 use Prim.Native.Nat.{ℕ, _+_, _*_, _-_, _/_, _^_, _<_, _≤_}
-use native.Mathlib.Nat.{add-mul, mul-assoc, mul-le-mul-right}
+use native.Mathlib.Nat.{add-mul, mul-assoc}
 use native.Mathlib.Omega.{arith}
 use lib.Arith.{digits-lt}
 use lib.IntN.{ℤ, pos}
 use lib.ListN.{length, getD}
 use Rattle.kernel.specs.declared.Kernel.{Kernel}
-use Rattle.line.specs.Inner.{Agree, AllWithin}
-use Rattle.line.specs.Cells.{Line, behind}
+use Rattle.line.specs.Inner.{Agree}
 use Rattle.line.specs.Transform.{undoneEvens, undoneOdds, forward, back}
 use Rattle.line.proofs.Cells.{by-lt, by-parity}
 use Rattle.line.proofs.Local.{forward-local, back-local}
 use Rattle.grid.specs.Buffer.{strided, InBuffer, Lines}
-use Rattle.grid.specs.Placed.{parted, woven, onWoven}
+use Rattle.grid.specs.Placed.{parted, woven}
 use Rattle.grid.proofs.Parted.{woven-even, woven-odd, parted-even, parted-odd}
 use Rattle.lifting.specs.Parts.{lane, Parts, Bounded, Both}
 use Rattle.lifting.specs.Lines.{lowsOf, highsOf}

@@ -1,5 +1,7 @@
--- A pair of rows, a low one and the high one behind it, that the way back of a level ends.
+-- Pairs of rows, a low one and the high one behind it, that the way back of a level places and ends.
 --
+--   PairsPlaced W S w m a b p u u′
+--                               == u′ is u with pairs a up to b of m from the plane p of rows of W: the right part of the low row, and the high row
 --   endedRow high k M s t l     == the row at s, or the one t behind it, after the last step of its columns, of which M pairs are left
 --   PairBack k M s t w l l′     == l′ is l with both rows of w numbers after that taken back
 --
@@ -7,7 +9,7 @@
 use mathlib.Core.Path.{_≡_}
 use mathlib.Core.Bool.{Bool, true, false}
 use mathlib.Core.List.{List}
-use Prim.Native.Nat.{ℕ, _+_, _*_, _<_}
+use Prim.Native.Nat.{ℕ, _+_, _*_, _/_, _<_, _≤_}
 use lib.IntN.{ℤ}
 use lib.ListN.{length}
 use Rattle.kernel.specs.declared.Kernel.{Kernel}
@@ -25,3 +27,10 @@ pub record PairBack (k : Kernel) (M s t w : ℕ) (l l′ : List ℤ) : Type 0 wh
   pub low : (x : ℕ) → x < w → cell l′ (s + x) ≡ back k w (endedRow false k M s t l) x
   pub high : (x : ℕ) → x < w → cell l′ (s + t + x) ≡ back k w (endedRow true k M s t l) x
   pub off : (i : ℕ) → ((x : ℕ) → x < w → i ≡ s + x → ⊥) → ((x : ℕ) → x < w → i ≡ s + t + x → ⊥) → cell l′ i ≡ cell l i
+
+pub record PairsPlaced (W S w m a b : ℕ) (p u u′ : List ℤ) : Type 0 where
+  pub size : length u′ ≡ length u
+  pub low : (i x : ℕ) → a ≤ i → i < b → w / 2 ≤ x → x < w → cell u′ (2 * i * S + x) ≡ cell p (i * W + x)
+  pub high : (i x : ℕ) → a ≤ i → i < b → x < w → cell u′ (2 * i * S + S + x) ≡ cell p ((m + i) * W + x)
+  pub off : (j : ℕ) → ((i x : ℕ) → a ≤ i → i < b → w / 2 ≤ x → x < w → j ≡ 2 * i * S + x → ⊥) → ((i x : ℕ) → a ≤ i → i < b → x < w → j ≡ 2 * i * S + S + x → ⊥)
+      → cell u′ j ≡ cell u j

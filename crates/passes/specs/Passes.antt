@@ -1,9 +1,6 @@
 -- Passes over a plane, forward and back, and what they ask of their buffers.
 --
 --   lineTransform undo k   == the transform of a line by kernel k, or the way back
---   order undo             == the line as its transform takes it, from a column whose numbers stand where the other end of the pass has them:
---                             forward from evens in front and odds behind, back from lows and highs in turn
---   columnTransform undo k == the transform of such a column, in place
 --   pictured W s           == the picture that a buffer s of rows of W samples holds, as whole numbers
 --   Takes undo w X         == a line of w numbers that is taken within 32 bits
 --   Area stride w h n      == an upper left area of w by h, both even, in n places of rows of `stride` numbers
@@ -19,18 +16,10 @@ use Rattle.line.specs.Cells.{Line, behind}
 use Rattle.line.specs.Inner.{AllWithin}
 use Rattle.line.specs.Transform.{forward, back}
 use Rattle.grid.specs.Picture.{Picture, Transform, picture}
-use Rattle.grid.specs.Placed.{parted, woven}
 
 abbrev pub lineTransform : Bool → Kernel → Transform ℤ
 lineTransform false k = forward k
 lineTransform true k = back k
-
-abbrev pub order : Bool → Transform ℤ
-order false w X = woven w X
-order true w X = parted w X
-
-abbrev pub columnTransform : Bool → Kernel → Transform ℤ
-columnTransform undo k w X = lineTransform undo k w (order undo w X)
 
 abbrev pub pictured : ℕ → List ℕ → Picture ℤ
 pictured W s y x = pos (picture 0 W s y x)

@@ -5,14 +5,15 @@ ghost use Prim.Native.Nat.{ℕ, _+_, _*_, _-_, _%_, _^_, _<_, _≤_};
 ghost use lib.IntN.{pos};
 ghost use lib.ListN.{length, getD};
 ghost use Rattle.line.specs.Inner.{AllWithin};
-ghost use Rattle.line.specs.Transform.{forward};
+ghost use Rattle.line.specs.Transform.{forward, back};
 ghost use Rattle.grid.specs.Picture.{rowPass, colPass, turned, picture};
 ghost use Rattle.grid.specs.Buffer.{strided, InBuffer, Lines};
-ghost use Rattle.grid.specs.Placed.{parted};
+ghost use Rattle.grid.specs.Placed.{parted, woven, onWoven};
 ghost use Rattle.runs.specs.Cells.{Written};
 ghost use Rattle.lifting.specs.Parts.{Parts, Bounded};
-ghost use Rattle.passes.specs.Passes.{lineTransform, order, columnTransform, pictured, Takes, Area};
-ghost use Rattle.passes.specs.Pairs.{endedRow, PairBack};
+ghost use Rattle.passes.specs.Passes.{lineTransform, pictured, Takes, Area};
+ghost use Rattle.passes.specs.Pairs.{PairsPlaced, endedRow, PairBack};
+ghost use Rattle.passes.specs.Levels.{levelOf, LevelBack};
 use kernel::Kernel;
 
 // How many numbers of working memory a strip of columns takes.
@@ -41,7 +42,7 @@ pub fn row_pass(kernel: Kernel, l: &mut [i32], q: &mut [i32], stride: usize, w: 
     requires { ⌜ Area stride w h (length (now l)) ⌝ }
     requires { ⌜ w ≤ length (now q) ⌝ }
     requires { ⌜ ((y : ℕ) → y < h → Takes false w (picture (pos 0) stride (now l) y)) ⌝ }
-    ensures { λ _. ⌜ picture (pos 0) stride (now (l .exit)) ≡ rowPass (lineTransform false kernel) w h (picture (pos 0) stride (now (l .entry))) ⌝ }
+    ensures { λ _. ⌜ picture (pos 0) stride (now (l .exit)) ≡ rowPass (forward kernel) w h (picture (pos 0) stride (now (l .entry))) ⌝ }
 {
     for y in 0..h {
         row(kernel, false, l, q, y * stride, w / 2);
@@ -75,7 +76,7 @@ pub fn col_pass(kernel: Kernel, l: &mut [i32], q: &mut [i32], stride: usize, w: 
     requires { ⌜ Area stride w h (length (now l)) ⌝ }
     requires { ⌜ 32768 ≤ length (now q) ⌝ }
     requires { ⌜ ((x : ℕ) → x < w → Takes false h (turned (picture (pos 0) stride (now l)) x)) ⌝ }
-    ensures { λ _. ⌜ picture (pos 0) stride (now (l .exit)) ≡ colPass (lineTransform false kernel) w h (picture (pos 0) stride (now (l .entry))) ⌝ }
+    ensures { λ _. ⌜ picture (pos 0) stride (now (l .exit)) ≡ colPass (forward kernel) w h (picture (pos 0) stride (now (l .entry))) ⌝ }
 {
     let most = STRIP / h;
     let mut x: usize = 0;
@@ -89,15 +90,54 @@ pub fn col_pass(kernel: Kernel, l: &mut [i32], q: &mut [i32], stride: usize, w: 
 // The column pass in place, forward, whole rows against whole rows, where the odd rows stand behind the even ones.
 pub fn columns(kernel: Kernel, l: &mut [i32], stride: usize, w: usize, h: usize)
     requires { ⌜ Area stride w h (length (now l)) ⌝ }
-    requires { ⌜ ((x : ℕ) → x < w → Takes false h (order false h (turned (picture (pos 0) stride (now l)) x))) ⌝ }
-    ensures { λ _. ⌜ picture (pos 0) stride (now (l .exit)) ≡ colPass (columnTransform false kernel) w h (picture (pos 0) stride (now (l .entry))) ⌝ }
+    requires { ⌜ ((x : ℕ) → x < w → Takes false h (woven h (turned (picture (pos 0) stride (now l)) x))) ⌝ }
+    ensures { λ _. ⌜ picture (pos 0) stride (now (l .exit)) ≡ colPass (onWoven (forward kernel)) w h (picture (pos 0) stride (now (l .entry))) ⌝ }
 {
     let m = h / 2;
     lifting::forward(kernel, l, 0, m * stride, stride, m, w);
 }
 
-// Of the m pairs of rows that are left, from `at` on, the high row between the low ones: ends the columns of the first pair, and takes its two
-// rows back.
+// Of a level of w by 2m coefficients, from the plane: the right part of low row n to row 2n, and high row n to row 2n + 1, for n from a up to b.
+fn place_pairs(
+    plane: &[i32],
+    l: &mut [i32],
+    width: usize,
+    stride: usize,
+    w: usize,
+    m: usize,
+    a: usize,
+    b: usize,
+)
+    requires { ⌜ (a ≤ b) × (b ≤ m) ⌝ }
+    requires { ⌜ Area width w (2 * m) (length (now plane)) ⌝ }
+    requires { ⌜ Area stride w (2 * m) (length (now l)) ⌝ }
+    ensures { λ _. ⌜ PairsPlaced width stride w m a b (now (plane .entry)) (now (l .entry)) (now (l .exit)) ⌝ }
+{
+    let half = w / 2;
+    let at = 2 * a * stride;
+    transfer::numbers::copy_rows(
+        plane,
+        l,
+        a * width + half,
+        width,
+        at + half,
+        2 * stride,
+        b - a,
+        half,
+    );
+    transfer::numbers::copy_rows(
+        plane,
+        l,
+        (m + a) * width,
+        width,
+        at + stride,
+        2 * stride,
+        b - a,
+        w,
+    );
+}
+
+// Of the m pairs of rows from `at` on, the high row behind the low one: ends the columns of the first pair, and takes its two rows back.
 fn pair_back(
     kernel: Kernel,
     l: &mut [i32],
@@ -114,24 +154,52 @@ fn pair_back(
     requires { ⌜ Takes true w (endedRow false kernel m at stride (now l)) × Takes true w (endedRow true kernel m at stride (now l)) ⌝ }
     ensures { λ _. ⌜ PairBack kernel m at stride w (now (l .entry)) (now (l .exit)) ⌝ }
 {
-    lifting::end_back(kernel, l, at, at + stride, 2 * stride, m, w);
+    lifting::end_row(kernel, l, at, at + stride, 2 * stride, m, w);
     row(kernel, true, l, q, at, w / 2);
     row(kernel, true, l, q, at + stride, w / 2);
 }
 
-// A level's way back in place, where the high rows stand between the low ones: the columns' first step, and then, pair after pair of rows,
-// their last step and the rows.
-pub fn level_back(kernel: Kernel, l: &mut [i32], q: &mut [i32], stride: usize, w: usize, h: usize)
+// A level's way back, from the plane and from what every other row of l holds of the levels below: pair after pair of rows is placed, its
+// columns' first step follows two pairs behind, since kernel 2 looks two rows ahead, and two pairs behind that their last step and the rows.
+pub fn level_back(
+    kernel: Kernel,
+    plane: &[i32],
+    l: &mut [i32],
+    q: &mut [i32],
+    width: usize,
+    stride: usize,
+    w: usize,
+    h: usize,
+)
+    requires { ⌜ Area width w h (length (now plane)) ⌝ }
     requires { ⌜ Area stride w h (length (now l)) ⌝ }
     requires { ⌜ w ≤ length (now q) ⌝ }
-    requires { ⌜ ((x : ℕ) → x < w → Takes true h (order true h (turned (picture (pos 0) stride (now l)) x))) ⌝ }
-    requires { ⌜ ((y : ℕ) → y < h → Takes true w (colPass (columnTransform true kernel) w h (picture (pos 0) stride (now l)) y)) ⌝ }
-    ensures { λ _. ⌜ picture (pos 0) stride (now (l .exit)) ≡ rowPass (lineTransform true kernel) w h (colPass (columnTransform true kernel) w h (picture (pos 0) stride (now (l .entry)))) ⌝ }
+    requires { ⌜ ((x : ℕ) → x < w → Takes true h (turned (levelOf width stride w h (now plane) (now l)) x)) ⌝ }
+    requires { ⌜ ((y : ℕ) → y < h → Takes true w (colPass (back kernel) w h (levelOf width stride w h (now plane) (now l)) y)) ⌝ }
+    ensures { λ _. ⌜ LevelBack kernel width stride w h (now (plane .entry)) (now (l .entry)) (now (l .exit)) ⌝ }
 {
     let m = h / 2;
-    lifting::begin_back(kernel, l, 0, stride, 2 * stride, m, w);
+    let mut placed: usize = 0;
+    let mut begun: usize = 0;
     for n in 0..m {
-        pair_back(kernel, l, q, 2 * n * stride, stride, m - n, w);
+        let to_place = whole::least(n + 5, m);
+        let to_begin = whole::least(n + 3, m);
+        let at = 2 * n * stride;
+        place_pairs(plane, l, width, stride, w, m, placed, to_place);
+        lifting::begin_rows(
+            kernel,
+            l,
+            at,
+            at + stride,
+            2 * stride,
+            to_place - n,
+            w,
+            begun - n,
+            to_begin - n,
+        );
+        pair_back(kernel, l, q, at, stride, to_begin - n, w);
+        placed = to_place;
+        begun = to_begin;
     }
 }
 

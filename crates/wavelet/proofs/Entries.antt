@@ -3,7 +3,7 @@ use mathlib.Core.Path.{_≡_, sym, ap, subst, _∙_, fun-ext}
 use mathlib.Core.Bool.{true}
 use mathlib.Core.List.{List}
 use Prim.Native.Nat.{ℕ, zero, suc, _+_, _*_, _-_, _/_, _%_, _^_, _<_, _≤_}
-use native.Mathlib.Nat.{mul-comm, mul-le-mul-right}
+use native.Mathlib.Nat.{mul-comm, mod-lt, div-lt-iff-lt-mul}
 use native.Mathlib.Omega.{arith}
 use lib.Arith.{digits-lt}
 use lib.IntN.{ℤ, pos, negsuc, natAbs}
@@ -14,26 +14,20 @@ use Rattle.kernel.specs.Kernels.{theKernel}
 use Rattle.line.proofs.Cells.{by-lt}
 use Rattle.line.proofs.Bounds.{within-more}
 use Rattle.grid.specs.Picture.{Picture, picture}
-use Rattle.grid.specs.Placed.{gathered}
 use Rattle.grid.proofs.Passes.{cell, cell-past, cell-of}
-use Rattle.grid.proofs.Gathered.{gathered-below, gathered-right}
-use Rattle.placing.specs.Placed.{Placed}
 use Rattle.plane.specs.Inner.{Below}
 use Rattle.plane.specs.Plane.{transformed, undone}
 use Rattle.refusal.specs.Results.{Result}
 use Rattle.wavelet.specs.Wavelet.{samplesOf, coefficientsOf, coefficient, undoneNumber}
-use Rattle.wavelet.specs.Walks.{areaBound, Levels, Sized}
+use Rattle.wavelet.specs.Walks.{areaBound, Levels, Undone, Sized}
 
--- ---- a plane that is placed for the way back is the plane again, gathered
-pub placed-plane : (J W H : ℕ) (p u u′ : List ℤ) → length p ≡ W * H → length u ≡ W * H → Placed J W W W H p u u′ → gathered J W H (coefficientsOf W u′) ≡ coefficientsOf W p
-placed-plane J W H p u u′ e f q = fun-ext λ y. fun-ext λ x. by-lt x W
-    (λ j. by-lt y H
-    (λ i. q .inside y x i j)
-    (λ i. gathered-below J W H y x (coefficientsOf W u′) i ∙ past u′ y x i j (q .size ∙ f) ∙ sym (past p y x i j e)))
-    (λ j. gathered-right J W H y x (coefficientsOf W u′) j ∙ cell-past (pos 0) W u′ y x j ∙ sym (cell-past (pos 0) W p y x j))
-  where
-    past : (l : List ℤ) (y x : ℕ) → H ≤ y → x < W → length l ≡ W * H → coefficientsOf W l y x ≡ pos 0
-    past l y x i j s = cell (pos 0) W l y x j ∙ List·getD-eq-default l (pos 0) (let le : H * W ≤ y * W = mul-le-mul-right W i in omega (arith, mul-comm W H))
+-- ---- all levels undone, in rows of the plane's own width
+pub all-undone : (k : Kernel) (J W H : ℕ) (p u u′ : List ℤ) → 0 < W → length u ≡ W * H → Undone k J W W W H p u u′ → Result (pos 0) true (λ i. undone k J W H (coefficientsOf W p) (i / W) (i % W)) u u′
+all-undone k J W H p u u′ some size t = record {
+  size = t .size;
+  cell = λ i h. let y : i / W < H = div-lt-iff-lt-mul some .1 (omega (arith, mul-comm W H)) in let x = mod-lt i some in
+      cell-of (pos 0) W u′ H i (omega (arith, mul-comm W H)) ∙ cell (pos 0) W u′ (i / W) (i % W) x ∙ t .inside (i / W) (i % W) y x;
+}
 
 -- the filled buffer, cell by cell
 pub filled : (W H : ℕ) (l l′ : List ℤ) (P : Picture ℤ) → length l′ ≡ length l → length l ≡ W * H → coefficientsOf W l′ ≡ P → Result (pos 0) true (λ i. P (i / W) (i % W)) l l′
@@ -43,17 +37,24 @@ filled W H l l′ P same size e = record {
 }
 
 -- ---- sizes and bounds
-pub sized-levels : {J W H m n size : ℕ} → Sized J W H m n → size ≡ n → Levels W W H J size
-sized-levels {J} {W} {H} z e = record {
-  halves = z .halves;
-  few = z .few;
-  some-w = z .some-w;
-  some-h = z .some-h;
-  w-most = z .w-most;
-  h-most = z .h-most;
-  wide = omega arith;
-  fits = omega (arith, mul-comm W H, z .to);
-}
+module _ {J W H m n : ℕ} (z : Sized J W H m n) where
+  levels-of : (size : ℕ) → size ≡ W * H → Levels W W H J size
+  levels-of size e = record {
+    halves = z .halves;
+    few = z .few;
+    some-w = z .some-w;
+    some-h = z .some-h;
+    w-most = z .w-most;
+    h-most = z .h-most;
+    wide = omega arith;
+    fits = omega (arith, mul-comm W H, e);
+  }
+
+  pub sized-levels : {size : ℕ} → size ≡ n → Levels W W H J size
+  sized-levels e = levels-of _ (e ∙ z .to)
+
+  pub plane-levels : Levels W W H J m
+  plane-levels = levels-of m (z .from)
 
 areaBound-least : (n : ℕ) → n ≤ 5 → 1023 ≤ areaBound n
 unfolding areaBound

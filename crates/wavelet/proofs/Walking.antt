@@ -3,26 +3,34 @@ use mathlib.Core.Path.{_≡_, sym, ap, _∙_}
 use mathlib.Core.Bool.{true, false}
 use mathlib.Core.List.{List}
 use Prim.Native.Nat.{ℕ, zero, suc, _+_, _*_, _-_, _/_, _%_, _^_, _<_, _≤_}
-use native.Mathlib.Nat.{mul-assoc, one-mul, mul-le-mul-right}
+use native.Mathlib.Nat.{mul-assoc, mul-comm, one-mul, mul-le-mul-right}
 use native.Mathlib.Omega.{arith}
+use lib.Arith.{digits-lt}
 use lib.IntN.{ℤ, pos}
+use lib.ListN.{length}
 use Rattle.kernel.specs.declared.Kernel.{Kernel}
+use Rattle.line.specs.Cells.{cell}
 use Rattle.line.specs.Transform.{forward, back}
+use Rattle.line.proofs.Cells.{by-lt}
 use Rattle.line.proofs.Bounds.{within-more}
 use Rattle.grid.specs.Buffer.{Halves}
 use Rattle.grid.specs.Picture.{Picture, rowPass, turned, colPass}
-use Rattle.grid.specs.Placed.{parted, woven, gathered}
-use Rattle.grid.proofs.Levels.{halves-more}
+use Rattle.grid.specs.Placed.{parted, woven, onWoven}
+use Rattle.grid.proofs.Passes as grid
+use Rattle.grid.proofs.Levels.{halves-more, back-none, back-more}
 use Rattle.grid.proofs.Outside.{back-below, back-right}
-use Rattle.grid.proofs.Parted.{row-cell, cols-compose, cols-on-parted, woven-local, woven-parted}
-use Rattle.grid.proofs.Gathered.{gathered-below, gathered-right, gathered-alike, back-alike, quarter-alike, rows-between, gathered-more}
+use Rattle.grid.proofs.Parted.{row-cell, cols-on-parted, woven-local, woven-parted}
+use Rattle.grid.proofs.Alike.{Alike, rows-alike, cols-alike}
 use Rattle.plane.specs.Inner.{Below}
 use Rattle.plane.specs.Plane.{undone}
 use Rattle.plane.proofs.Bounds.{below-more, below-part, undoBound, undo-within, undo-fits, column-lows, column-highs, row-lows, row-highs, row-all, col-all}
-use Rattle.passes.specs.Passes.{columnTransform, Takes, Area}
+use Rattle.transfer.specs.Moved.{Rows, Moved}
+use Rattle.passes.specs.Passes.{Takes, Area}
+use Rattle.passes.specs.Levels.{levelOf, LevelBack}
+use Rattle.passes.proofs.Level.{level-left, level-right, level-below}
 use Rattle.passes.proofs.Running.{line-local, takes-agree}
 use Rattle.wavelet.specs.Wavelet.{coefficientsOf}
-use Rattle.wavelet.specs.Walks.{areaBound, Levels}
+use Rattle.wavelet.specs.Walks.{areaBound, Levels, Undone}
 
 -- ---- sizes
 module _ {stride w h n size : ℕ} (z : Levels stride w h n size) where
@@ -105,57 +113,82 @@ module _ {n w h : ℕ} {P : Picture ℤ} (k : Kernel) (some : 0 < n) (few : n �
       (λ y p. sym (woven-local h (turned (colPass parted w h R) x) (parted h (turned R x)) even (λ v r. row-cell parted h w x v (turned R) q r) y p ∙ woven-parted h (turned R x) even y p))
       (cols-take some few rows-first x q))
 
-  pub first-level : {Q R : Picture ℤ} → Q ≡ colPass parted w h (rowPass (forward k) w h P) → R ≡ colPass (columnTransform false k) w h Q → R ≡ colPass (forward k) w h (rowPass (forward k) w h P)
-  first-level e d = d ∙ ap (colPass (columnTransform false k) w h) e ∙ cols-on-parted (forward k) (line-local false k) w h (rowPass (forward k) w h P) (halves-more n w h some halves .1)
+  pub first-level : {Q R : Picture ℤ} → Q ≡ colPass parted w h (rowPass (forward k) w h P) → R ≡ colPass (onWoven (forward k)) w h Q → R ≡ colPass (forward k) w h (rowPass (forward k) w h P)
+  first-level e d = d ∙ ap (colPass (onWoven (forward k)) w h) e ∙ cols-on-parted (forward k) (line-local false k) w h (rowPass (forward k) w h P) (halves-more n w h some halves .1)
 
   pub first-below : {R : Picture ℤ} → R ≡ colPass (forward k) w h (rowPass (forward k) w h P) → Below (areaBound (n - 1)) (w / 2) (h / 2) R
   first-below e = cols-below some few k (halves-more n w h some halves .1) rows-first e
 
--- ---- back: one level of n, n at least 1. P is the plane
-module _ {n w h : ℕ} {P : Picture ℤ} (k : Kernel) (some : 0 < n) (few : n ≤ 5) (halves : Halves n w h) (all : Below (2 ^ 22 - 1) w h P) where
+-- ---- back: one level of n, n at least 1. P is the plane, R its level: it holds what the levels below leave
+module _ {n w h : ℕ} {P R : Picture ℤ} (k : Kernel) (some : 0 < n) (few : n ≤ 5) (halves : Halves n w h) (all : Below (2 ^ 22 - 1) w h P)
+    (same : Alike w h (undone k (n - 1) (w / 2) (h / 2) P) R) where
+  even : (w % 2 ≡ 0) × (h % 2 ≡ 0) × Halves (n - 1) (w / 2) (h / 2)
+  even = halves-more n w h some halves
+
   quarter : Below (undoBound k (2 ^ 22 - 1) (n - 1)) (w / 2) (h / 2) (undone k (n - 1) (w / 2) (h / 2) P)
-  quarter = undo-within k (n - 1) (w / 2) (h / 2) (2 ^ 22 - 1) P (halves-more n w h some halves .2) (below-part (w / 2) (h / 2) all (omega arith) (omega arith))
+  quarter = undo-within k (n - 1) (w / 2) (h / 2) (2 ^ 22 - 1) P (even .2) (below-part (w / 2) (h / 2) all (omega arith) (omega arith))
 
-  pub cols-back : (Q : Picture ℤ) → colPass parted w h Q ≡ undone k (n - 1) (w / 2) (h / 2) P → (x : ℕ) → x < w → Takes true h (parted h (turned Q x))
-  cols-back Q e x q =
-      let v = halves-more n w h some halves in let f = undo-fits k (n - 1) (omega arith) in
-      let t : Takes true h (turned (colPass parted w h Q) x) = rw e (record {
+  columns-alike : Alike w h (colPass (back k) w h (undone k (n - 1) (w / 2) (h / 2) P)) (colPass (back k) w h R)
+  columns-alike = cols-alike (back k) (line-local true k) w h (undone k (n - 1) (w / 2) (h / 2) P) R (even .1) same
+
+  pub cols-back : (x : ℕ) → x < w → Takes true h (turned R x)
+  cols-back x q = let f = undo-fits k (n - 1) (omega arith) in
+      takes-agree true h (turned (undone k (n - 1) (w / 2) (h / 2) P) x) (turned R x) (even .1) (λ y p. same y x p q) (record {
         takes = (
-          (λ y p. within-more (column-lows k (n - 1) w h (2 ^ 22 - 1) P (v .0) (v .1) all quarter x q y p) (f .0)),
-          (λ y p. within-more (column-highs k (n - 1) w h (2 ^ 22 - 1) P (v .0) (v .1) all quarter x q y p) (omega arith)),
+          (λ y p. within-more (column-lows k (n - 1) w h (2 ^ 22 - 1) P (even .0) (even .1) all quarter x q y p) (f .0)),
+          (λ y p. within-more (column-highs k (n - 1) w h (2 ^ 22 - 1) P (even .0) (even .1) all quarter x q y p) (omega arith)),
         );
-      }) in
-      takes-agree true h (turned (colPass parted w h Q) x) (parted h (turned Q x)) (v .1) (λ y p. row-cell parted h w x y (turned Q) q p) t
+      })
 
-  pub rows-back : {Q : Picture ℤ} → Q ≡ colPass (back k) w h (undone k (n - 1) (w / 2) (h / 2) P) → (y : ℕ) → y < h → Takes true w (Q y)
-  rows-back e y p = let v = halves-more n w h some halves in let f = undo-fits k (n - 1) (omega arith) in rw e (record {
-    takes = (
-      (λ x q. within-more (row-lows k (n - 1) w h (2 ^ 22 - 1) P (v .0) (v .1) all quarter y p x q) (f .1)),
-      (λ x q. within-more (row-highs k (n - 1) w h (2 ^ 22 - 1) P (v .0) (v .1) all quarter y p x q) (f .2)),
-    );
-  })
+  pub rows-back : (y : ℕ) → y < h → Takes true w (colPass (back k) w h R y)
+  rows-back y p = let f = undo-fits k (n - 1) (omega arith) in
+      takes-agree true w (colPass (back k) w h (undone k (n - 1) (w / 2) (h / 2) P) y) (colPass (back k) w h R y) (even .0) (λ x q. columns-alike y x p q) (record {
+        takes = (
+          (λ x q. within-more (row-lows k (n - 1) w h (2 ^ 22 - 1) P (even .0) (even .1) all quarter y p x q) (f .1)),
+          (λ x q. within-more (row-highs k (n - 1) w h (2 ^ 22 - 1) P (even .0) (even .1) all quarter y p x q) (f .2)),
+        );
+      })
 
--- the levels below, on rows twice as long
-module _ {n w h S size : ℕ} (z : Levels S w h n size) (some : 0 < n) (l : List ℤ) where
-  pub quarter-below : Below (2 ^ 22 - 1) w h (gathered n w h (coefficientsOf S l)) → Below (2 ^ 22 - 1) (w / 2) (h / 2) (gathered (n - 1) (w / 2) (h / 2) (coefficientsOf (2 * S) l))
-  quarter-below all =
-      let v = halves-more n w h some (z .halves) in
-      let same = gathered-alike (n - 1) (w / 2) (h / 2) (coefficientsOf (2 * S) l) (colPass parted w h (coefficientsOf S l)) (v .2) (quarter-alike (pos 0) S w h l (z .wide) (v .1)) in
-      record { each = λ y x p q. rw (same y x p q ∙ ap (λ (P : Picture ℤ). P y x) (sym (gathered-more n w h (coefficientsOf S l) some))) (all .each y x (omega arith) (omega arith)) }
+  pub level-undone : Alike w h (rowPass (back k) w h (colPass (back k) w h R)) (undone k n w h P)
+  level-undone y x p q =
+      sym (ap (λ (Q : Picture ℤ). Q y x) (back-more (back k) n w h P some)
+      ∙ rows-alike (back k) (line-local true k) w h (colPass (back k) w h (undone k (n - 1) (w / 2) (h / 2) P)) (colPass (back k) w h R) (even .0) columns-alike y x p q)
 
-  pub below-undone : (k : Kernel) (l′ : List ℤ) → coefficientsOf (2 * S) l′ ≡ undone k (n - 1) (w / 2) (h / 2) (gathered (n - 1) (w / 2) (h / 2) (coefficientsOf (2 * S) l))
-      → colPass parted w h (coefficientsOf S l′) ≡ undone k (n - 1) (w / 2) (h / 2) (gathered n w h (coefficientsOf S l))
-  below-undone k l′ e =
-      let v = halves-more n w h some (z .halves) in
-      rows-between (pos 0) S w h l l′ (λ P. undone k (n - 1) (w / 2) (h / 2) (gathered (n - 1) (w / 2) (h / 2) P)) (z .wide) (v .1)
-      (λ y x P ge. back-below (back k) (n - 1) (w / 2) (h / 2) y x (gathered (n - 1) (w / 2) (h / 2) P) ge ∙ gathered-below (n - 1) (w / 2) (h / 2) y x P ge)
-      (λ y x P ge. back-right (back k) (n - 1) (w / 2) (h / 2) y x (gathered (n - 1) (w / 2) (h / 2) P) ge ∙ gathered-right (n - 1) (w / 2) (h / 2) y x P ge)
-      (λ P Q a. back-alike (back k) (line-local true k) (n - 1) (w / 2) (h / 2) _ _ (v .2) (gathered-alike (n - 1) (w / 2) (h / 2) P Q (v .2) a))
-      e
-      ∙ ap (undone k (n - 1) (w / 2) (h / 2)) (sym (gathered-more n w h (coefficientsOf S l) some))
+-- what the levels below leave, in rows twice as far apart, is the level's low quarter
+module _ (n W S w h : ℕ) (k : Kernel) (p u u₁ : List ℤ) (z : Levels W w h n (length p)) (t : Undone k (n - 1) W (2 * S) (w / 2) (h / 2) p u u₁) where
+  pub level-alike : Alike w h (undone k (n - 1) (w / 2) (h / 2) (coefficientsOf W p)) (levelOf W S w h p u₁)
+  level-alike y x i j = by-lt y (h / 2)
+      (λ a. by-lt x (w / 2)
+      (λ b. sym (t .inside y x a b) ∙ ap (cell u₁) (omega (arith, mul-assoc y 2 S, mul-comm y 2)) ∙ sym (level-left W S w h p u₁ y x a b))
+      (λ b. back-right (back k) (n - 1) (w / 2) (h / 2) y x (coefficientsOf W p) b ∙ here ∙ sym (level-right W S w h p u₁ y x b (omega (arith, z .wide)))))
+      (λ a. back-below (back k) (n - 1) (w / 2) (h / 2) y x (coefficientsOf W p) a ∙ here ∙ sym (level-below W S w h p u₁ y x a (omega (arith, z .wide))))
+    where
+      here : coefficientsOf W p y x ≡ cell p (y * W + x)
+      here = grid.cell (pos 0) W p y x (omega (arith, z .wide))
 
-  -- the columns of this level
-  pub columns-undone : (k : Kernel) (l′ : List ℤ) → coefficientsOf (2 * S) l′ ≡ undone k (n - 1) (w / 2) (h / 2) (gathered (n - 1) (w / 2) (h / 2) (coefficientsOf (2 * S) l))
-      → colPass (columnTransform true k) w h (coefficientsOf S l′) ≡ colPass (back k) w h (undone k (n - 1) (w / 2) (h / 2) (gathered n w h (coefficientsOf S l)))
-  columns-undone k l′ e =
-      sym (cols-compose (back k) parted (line-local true k) w h (coefficientsOf S l′) (halves-more n w h some (z .halves) .1)) ∙ ap (colPass (back k) w h) (below-undone k l′ e)
+  pub level-more : {u₂ : List ℤ} → 0 < n → Below (2 ^ 22 - 1) w h (coefficientsOf W p) → LevelBack k W S w h p u₁ u₂ → Undone k n W S w h p u u₂
+  level-more some all q = record {
+    size = q .size ∙ t .size;
+    inside = λ y x i j. q .inside y x i j ∙ level-undone k some (z .few) (z .halves) all level-alike y x i j;
+    off = λ i miss. q .off i miss ∙ t .off i (λ y x a b e. miss (2 * y) x (omega arith) (omega arith) (e ∙ omega (arith, mul-assoc y 2 S, mul-comm y 2)));
+  }
+
+-- with no level left, the area as it is
+module _ {n W S w h : ℕ} (k : Kernel) (p u : List ℤ) (y : Levels W w h n (length p)) (z : Levels S w h n (length u)) where
+  pub area-rows : Rows p (λ i. 0 + i * W) (λ i. 0 + i * S) h w u
+  area-rows = record {
+    some = y .some-w;
+    room = λ i a. record {
+      source = λ j b. omega (arith, y .fits, digits-lt {q = i} {m = h} {r = j} {c = W} a (omega (arith, y .wide)));
+      target = λ j b. omega (arith, z .fits, digits-lt {q = i} {m = h} {r = j} {c = S} a (omega (arith, z .wide)));
+    };
+    apart = λ i m j a b. omega (arith, digits-lt {q = i} {m = m} {r = j} {c = S} a (omega (arith, z .wide)));
+  }
+
+  pub none-undone : {u′ : List ℤ} → n ≤ 0 → Moved (pos 0) p (λ i. 0 + i * W) (λ i. 0 + i * S) h w u u′ → Undone k n W S w h p u u′
+  none-undone {u′} none t = record {
+    size = t .size;
+    inside = λ v x a b. ap (cell u′) (omega arith) ∙ t .on v x a b ∙ ap (cell p) (omega arith) ∙ sym (grid.cell (pos 0) W p v x (omega (arith, y .wide)))
+        ∙ ap (λ (P : Picture ℤ). P v x) (back-none (back k) n w h (coefficientsOf W p) none);
+    off = λ i miss. t .off i (λ v x a b e. miss v x a b (e ∙ omega arith));
+  }

@@ -3,11 +3,20 @@
 --   Sized J W H m n        == J levels, one at least, and sizes within the limits, and two buffers that are W · H long
 --   areaBound n            == a bound on the area's numbers with n levels left, n at most 5
 --   Levels stride w h n m  == an area of w by h that n levels can halve, in m places of rows of `stride` numbers
+--   Undone k n W S w h p u u′
+--                          == u′ is u with n levels of the area of w by h of the plane p, of rows of W, undone in its rows of S
 --
 -- Assumes nothing: these are definitions.
 use mathlib.Core.Path.{_≡_}
-use Prim.Native.Nat.{ℕ, _*_, _-_, _^_, _<_, _≤_}
+use mathlib.Core.List.{List}
+use Prim.Native.Nat.{ℕ, _+_, _*_, _-_, _^_, _<_, _≤_}
+use lib.IntN.{ℤ, pos}
+use lib.ListN.{length}
+use Rattle.kernel.specs.declared.Kernel.{Kernel}
+use Rattle.line.specs.Cells.{cell}
 use Rattle.grid.specs.Buffer.{Halves}
+use Rattle.grid.specs.Picture.{picture}
+use Rattle.plane.specs.Plane.{undone}
 
 unfoldable pub areaBound : ℕ → ℕ
 areaBound n = 1024 * 9 ^ (5 - n) - 1
@@ -32,3 +41,8 @@ pub record Sized (J W H m n : ℕ) : Type 0 where
   pub h-most : H ≤ 4096
   pub from : m ≡ W * H
   pub to : n ≡ W * H
+
+pub record Undone (k : Kernel) (n W S w h : ℕ) (p u u′ : List ℤ) : Type 0 where
+  pub size : length u′ ≡ length u
+  pub inside : (y x : ℕ) → y < h → x < w → cell u′ (y * S + x) ≡ undone k n w h (picture (pos 0) W p) y x
+  pub off : (i : ℕ) → ((y x : ℕ) → y < h → x < w → i ≡ y * S + x → ⊥) → cell u′ i ≡ cell u i

@@ -5,15 +5,14 @@ ghost use lib.IntN.{pos};
 ghost use lib.ListN.{length};
 ghost use mathlib.Core.Bool.{true};
 ghost use Rattle.line.specs.Transform as line;
-ghost use Rattle.grid.specs.Picture.{colPass, lowSide, walk, walkBack};
-ghost use Rattle.grid.specs.Placed.{gathered};
+ghost use Rattle.grid.specs.Picture.{colPass, lowSide, walk};
 ghost use Rattle.plane.specs.Plane as planes;
 ghost use Rattle.plane.specs.Inner.{Below};
 ghost use Rattle.plane.specs.Plane.{transformed};
 ghost use Rattle.refusal.specs.Numbers.{answerNumber, first, accepted};
 ghost use Rattle.refusal.specs.Results.{Result};
 ghost use Rattle.wavelet.specs.Wavelet.{samplesOf, coefficientsOf, coefficient, undoneNumber, transformTests, undoTests};
-ghost use Rattle.wavelet.specs.Walks.{areaBound, Levels, Sized};
+ghost use Rattle.wavelet.specs.Walks.{areaBound, Levels, Undone, Sized};
 use kernel::Choice;
 use kernel::Kernel;
 use refusal::Answer;
@@ -119,24 +118,39 @@ pub fn transform(
     Answer::Done
 }
 
-// The way back, in place on rows `stride` apart: the levels below, on every other row, then this one.
+// The way back of an area of the plane, into rows `stride` apart: the levels below into every other row, and then this one.
 fn undo_levels(
     kernel: Kernel,
+    plane: &[i32],
     l: &mut [i32],
     q: &mut [i32],
+    width: usize,
     stride: usize,
     w: usize,
     h: usize,
     levels: usize,
 )
+    requires { ⌜ Levels width w h levels (length (now plane)) ⌝ }
     requires { ⌜ Levels stride w h levels (length (now l)) ⌝ }
     requires { ⌜ w ≤ length (now q) ⌝ }
-    requires { ⌜ Below (2 ^ 22 - 1) w h (gathered levels w h (coefficientsOf stride (now l))) ⌝ }
-    ensures { λ _. ⌜ coefficientsOf stride (now (l .exit)) ≡ walkBack (line.back kernel) levels w h (gathered levels w h (coefficientsOf stride (now (l .entry)))) ⌝ }
+    requires { ⌜ Below (2 ^ 22 - 1) w h (coefficientsOf width (now plane)) ⌝ }
+    ensures { λ _. ⌜ Undone kernel levels width stride w h (now (plane .entry)) (now (l .entry)) (now (l .exit)) ⌝ }
 {
     if 0 < levels {
-        undo_levels(kernel, l, q, 2 * stride, w / 2, h / 2, levels - 1);
-        passes::level_back(kernel, l, q, stride, w, h);
+        undo_levels(
+            kernel,
+            plane,
+            l,
+            q,
+            width,
+            2 * stride,
+            w / 2,
+            h / 2,
+            levels - 1,
+        );
+        passes::level_back(kernel, plane, l, q, width, stride, w, h);
+    } else {
+        transfer::numbers::copy_rows(plane, l, 0, width, 0, stride, h, w);
     }
 }
 
@@ -145,9 +159,8 @@ fn undo_all(kernel: Kernel, levels: usize, w: usize, h: usize, plane: &[i32], un
     requires { ⌜ Below (2 ^ 22 - 1) w h (coefficientsOf w (now plane)) ⌝ }
     ensures { λ _. ⌜ Result (pos 0) true (λ i. planes.undone kernel levels w h (coefficientsOf w (now (plane .entry))) (i / w) (i % w)) (now (undone .entry)) (now (undone .exit)) ⌝ }
 {
-    placing::place(plane, undone, w, w, w, h, levels);
     let mut q = [0i32; 4096];
-    undo_levels(kernel, undone, &mut q, w, w, h, levels);
+    undo_levels(kernel, plane, undone, &mut q, w, w, w, h, levels);
 }
 
 // The undone numbers of a plane of w by h coefficients.

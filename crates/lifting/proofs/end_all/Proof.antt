@@ -1,6 +1,5 @@
 -- `lifting::end_all` does the last step of the way back on all rows. Assumes nothing.
 use mathlib.Core.Bool.{true}
-use native.Mathlib.Omega.{arith}
 use borrow.Author.Needs.{needs}
 use Rattle.runs.specs.declared.Step.the-variants.{High}
 use Rattle.lifting.proofs.Rows.{parts-swap}

@@ -3,8 +3,6 @@ use mathlib.Core.Path.{_≡_}
 use Prim.Native.Nat.{_+_}
 use native.Mathlib.Omega.{arith}
 use borrow.Author.Needs.{needs}
-use Rattle.lifting.specs.Lines.{Pairable}
-use Rattle.lifting.specs.Parts.{Both}
 use Rattle.lifting.proofs.Rows.{all-rows}
 use Rattle.lifting.proofs.pairs.Statement.{statement}
 use Rattle.lifting.proofs.pairs.Tie as tie

@@ -1,14 +1,12 @@
 -- `passes::row_pass` transforms the rows of an area. The loop's invariant: the first y rows are transformed. Assumes nothing.
-use mathlib.Core.Path.{_≡_, ap, _∙_}
+use mathlib.Core.Path.{_≡_}
 use mathlib.Core.Bool.{false}
-use Prim.Native.Nat.{_*_, _-_, _<_}
+use Prim.Native.Nat.{_-_}
 use native.Mathlib.Omega.{arith}
 use lib.Arith.{digits-lt}
 use lib.IntN.{pos}
-use lib.ListN.{length}
-use Rattle.grid.specs.Picture.{rowPass, picture}
 use Rattle.grid.proofs.Running.{RowsPassed, rows-none, rows-more}
-use Rattle.passes.specs.Passes.{lineTransform, Area}
+use Rattle.passes.specs.Passes.{lineTransform}
 use Rattle.passes.proofs.Running.{line-local, area-same, row-in, row-half, row-takes}
 use Rattle.passes.proofs.row_pass.Statement.{statement}
 use Rattle.passes.proofs.row_pass.Tie as tie

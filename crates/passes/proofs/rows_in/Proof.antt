@@ -1,14 +1,9 @@
 -- `passes::rows_in` transforms the rows of a picture and stores each where it ends. The loop's invariant: the rows up to i are stored.
 -- Assumes nothing.
-use mathlib.Core.Path.{_≡_, subst}
-use Prim.Native.Nat.{ℕ, _+_, _*_, _-_, _/_, _^_, _<_, _≤_}
+use mathlib.Core.Path.{_≡_}
+use Prim.Native.Nat.{_*_, _-_, _^_, _<_}
 use native.Mathlib.Omega.{arith}
-use borrow.Author.Needs.{needs}
-use lib.IntN.{pos}
-use lib.ListN.{length, getD}
-use Rattle.line.specs.Transform.{forward}
 use Rattle.grid.proofs.Parted.{source, source-lt}
-use Rattle.runs.specs.Cells.{Written}
 use Rattle.passes.proofs.Placing.{RowsIn, source-of, row-within, row-ends, rows-in-none, rows-in-more, rows-in-all}
 use Rattle.passes.proofs.rows_in.Statement.{statement}
 use Rattle.passes.proofs.rows_in.Tie as tie

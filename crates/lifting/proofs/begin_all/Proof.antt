@@ -1,15 +1,15 @@
--- `lifting::begin_back` does the first step of the way back. Assumes nothing.
+-- `lifting::begin_all` does the first step of the way back on all rows. Assumes nothing.
 use mathlib.Core.Bool.{true, false}
 use native.Mathlib.Omega.{arith}
 use borrow.Author.Needs.{needs}
 use Rattle.runs.specs.declared.Step.the-variants.{SPlusP, TT, Low}
 use Rattle.lifting.proofs.Rows.{parts-swap, bounded-more}
 use Rattle.lifting.proofs.Stages.{lift-fit, both-none, step-first, step-second}
-use Rattle.lifting.proofs.begin_back.Statement.{statement}
-use Rattle.lifting.proofs.begin_back.Tie as tie
+use Rattle.lifting.proofs.begin_all.Statement.{statement}
+use Rattle.lifting.proofs.begin_all.Tie as tie
 
-pub begin-back-spec : {M : Type 1} → statement M
-begin-back-spec =
+pub begin-all-spec : {M : Type 1} → statement M
+begin-all-spec =
     tie.close (tie.spec
     (λ c. search needs)
     (λ c. search needs)
@@ -18,7 +18,7 @@ begin-back-spec =
     (λ c κs. let s = c .before .before .before in let x = s .pre .1 .0 in let y = s .pre .1 .1 in (parts-swap (s .pre .0), (x, lift-fit TT true y x tt)))
     (λ c. search needs)
     (λ c κs. let s = c .before .before .before in let x = s .pre .1 .0 in let y = s .pre .1 .1 in (s .pre .0, (bounded-more y (omega arith), lift-fit Low false x y tt)))
-    (λ c. let a = c .before .before .args in rw (c .enum-told .given .1) (both-none (a .a) (a .b) (a .step) (a .lanes) (a .m) (a .l .now)))
+    (λ c. let a = c .before .before .args in rw (c .enum-told .given .1) (both-none (a .a) (a .b) (a .step) (a .lanes) 0 (a .m) (a .l .now)))
     (λ c. search needs)
     (λ c. rw (c .before .before .before .enum-told2 .given .1) (step-second (c .before .before .before .before .before .pre .0) (c .before .lift .ensures)))
     (λ c. search needs)

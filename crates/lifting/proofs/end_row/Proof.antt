@@ -1,16 +1,16 @@
--- `lifting::end_back` does the last step of the way back on one row. Assumes nothing.
+-- `lifting::end_row` does the last step of the way back on one row. Assumes nothing.
 use mathlib.Core.Bool.{true}
 use native.Mathlib.Omega.{arith}
 use borrow.Author.Needs.{needs}
 use Rattle.runs.specs.declared.Step.the-variants.{High}
 use Rattle.lifting.proofs.Rows.{parts-swap, one-row}
 use Rattle.lifting.proofs.Lifts.{straight-one, fit-part}
-use Rattle.lifting.proofs.Stages.{lift-fit, join-able, pairable-part, row-second}
-use Rattle.lifting.proofs.end_back.Statement.{statement}
-use Rattle.lifting.proofs.end_back.Tie as tie
+use Rattle.lifting.proofs.Stages.{lift-fit, join-able, pairable-part, rows-second}
+use Rattle.lifting.proofs.end_row.Statement.{statement}
+use Rattle.lifting.proofs.end_row.Tie as tie
 
-pub end-back-spec : {M : Type 1} → statement M
-end-back-spec =
+pub end-row-spec : {M : Type 1} → statement M
+end-row-spec =
     tie.close (tie.spec
     (λ c. search needs)
     (λ c κs. let s = c .before .before .before in let a = s .args in ((omega arith, omega (arith, s .pre .0 .some)), (s .pre .0, (one-row (a .step) (a .lanes), pairable-part true 0 1 (join-able (s .pre .1 .0) (s .pre .1 .1) tt) (omega arith) (s .pre .0 .some)))))
@@ -28,4 +28,4 @@ end-back-spec =
     (λ c. search needs)
     (λ c. rw (c .before .before .before .enum-told3 .given .1) (c .before .pair-rows3 .ensures))
     (λ c. search needs)
-    (λ c. rw (c .before .before .before .enum-told4 .given .1) (row-second 1 (c .before .before .before .before .before .pre .0 .some) (c .before .before .before .before .before .pre .0) (c .before .lift-rows .ensures))))
+    (λ c. rw (c .before .before .before .enum-told4 .given .1) (rows-second 0 1 (c .before .before .before .before .before .pre .0 .some) (c .before .before .before .before .before .pre .0) (c .before .lift-rows .ensures))))

@@ -1,0 +1,343 @@
+-- The way back of a level, pair after pair of rows.
+--
+--   planeAt R m c i x   == what it holds when it is placed: number x of low row i, or of high row i, of the level R
+--   begunAt k R m c i x == after the first step of its columns
+--   endedAt k R m c i x == after their last step
+--   Changed S w d f l l′ == l′ is l but for the pairs d up to f
+--   Rolled k R m S w h u e b q l
+--                       == so far l is u with its first e pairs taken back, those up to b after the first step, and those up to q placed
+--
+-- Assumes nothing.
+use mathlib.Core.Path.{_≡_, refl, sym, ap, _∙_}
+use mathlib.Core.Bool.{Bool, true, false}
+use mathlib.Core.List.{List}
+use Prim.Native.Nat.{ℕ, _+_, _*_, _-_, _/_, _%_, _^_, _<_, _≤_, min}
+use native.Mathlib.Omega.{arith}
+use lib.Arith.{digits-lt}
+use lib.IntN.{ℤ}
+use lib.ListN.{length}
+use Rattle.kernel.specs.declared.Kernel.{Kernel}
+use Rattle.line.specs.Cells.{Line, cell, behind}
+use Rattle.line.specs.Inner.{Agree, AllWithin}
+use Rattle.line.specs.Transform.{undoneEvens, undoneOdds, back}
+use Rattle.line.proofs.Cells.{by-lt, by-parity, paired-even, paired-odd}
+use Rattle.line.proofs.Local.{back-local}
+use Rattle.grid.specs.Picture.{Picture, rowPass, turned, colPass}
+use Rattle.grid.proofs.Passes.{row-of, col-of}
+use Rattle.grid.proofs.Parted.{row-cell}
+use Rattle.lifting.specs.Parts.{lane, Parts, Bounded, Both}
+use Rattle.lifting.specs.Lines.{begunFirst, begunSecond, endedFirst, endedSecond, Begins}
+use Rattle.lifting.proofs.Stages.{ended-behind, ended-first, ended-second, begun-first, begun-second, Holds, holds, begins, begun-there}
+use Rattle.passes.specs.Passes.{Takes, Area}
+use Rattle.passes.specs.Pairs.{endedRow, PairBack, PairsPlaced}
+use Rattle.passes.specs.Levels.{levelOf, LevelBack}
+use Rattle.passes.proofs.Running.{takes-agree}
+use Rattle.passes.proofs.PairPlaces.{at, bit, at-row, at-more, lane-at, pair-of}
+use Rattle.passes.proofs.Level.{level-left, level-right, level-below}
+
+-- ---- what the rows of a pair hold
+abbrev pub planeAt : Picture ℤ → ℕ → Bool → ℕ → Line ℤ
+planeAt R m false i x = R i x
+planeAt R m true i x = R (m + i) x
+
+abbrev pub begunAt : Kernel → Picture ℤ → ℕ → Bool → ℕ → Line ℤ
+begunAt k R m false i x = begunFirst k m (λ n. R n x) (λ n. R (m + n) x) i
+begunAt k R m true i x = begunSecond k m (λ n. R n x) (λ n. R (m + n) x) i
+
+abbrev pub endedAt : Kernel → Picture ℤ → ℕ → Bool → ℕ → Line ℤ
+endedAt k R m false i x = endedFirst k (λ n. begunAt k R m false n x) (λ n. begunAt k R m true n x) i
+endedAt k R m true i x = endedSecond k m (λ n. begunAt k R m false n x) (λ n. begunAt k R m true n x) i
+
+pub record Changed (S w d f : ℕ) (l l′ : List ℤ) : Type 0 where
+  pub size : length l′ ≡ length l
+  pub off : (j : ℕ) → ((c : Bool) (i x : ℕ) → d ≤ i → i < f → x < w → j ≡ at S c i + x → ⊥) → cell l′ j ≡ cell l j
+
+module _ {S w d f : ℕ} {l l′ : List ℤ} (wide : w ≤ S) (p : Changed S w d f l l′) (c : Bool) (i x : ℕ) (h : x < w) where
+  pair-before : i < d → cell l′ (at S c i + x) ≡ cell l (at S c i + x)
+  pair-before lt = p .off (at S c i + x) (λ c′ i′ x′ a b q e. omega (arith, pair-of S w c c′ i i′ x x′ wide h q e))
+
+  pair-behind : f ≤ i → cell l′ (at S c i + x) ≡ cell l (at S c i + x)
+  pair-behind ge = p .off (at S c i + x) (λ c′ i′ x′ a b q e. omega (arith, pair-of S w c c′ i i′ x x′ wide h q e))
+
+pub record Rolled (k : Kernel) (R : Picture ℤ) (m S w : ℕ) (u : List ℤ) (e b q : ℕ) (l : List ℤ) : Type 0 where
+  pub size : length l ≡ length u
+  pub done : (c : Bool) (i x : ℕ) → i < e → x < w → cell l (at S c i + x) ≡ back k w (endedAt k R m c i) x
+  pub begun : (c : Bool) (i x : ℕ) → e ≤ i → i < b → x < w → cell l (at S c i + x) ≡ begunAt k R m c i x
+  pub placed : (c : Bool) (i x : ℕ) → b ≤ i → i < q → x < w → cell l (at S c i + x) ≡ planeAt R m c i x
+  pub left : (c : Bool) (i x : ℕ) → q ≤ i → i < m → x < w → cell l (at S c i + x) ≡ cell u (at S c i + x)
+  pub off : (j : ℕ) → ((c : Bool) (i x : ℕ) → i < m → x < w → j ≡ at S c i + x → ⊥) → cell l j ≡ cell u j
+
+pub rolled-none : {k : Kernel} {R : Picture ℤ} {m S w : ℕ} {u : List ℤ} → Rolled k R m S w u 0 0 0 u
+rolled-none = record {
+  size = refl;
+  done = λ c i x h. absurd (omega arith);
+  begun = λ c i x a b. absurd (omega arith);
+  placed = λ c i x a b. absurd (omega arith);
+  left = λ c i x a b h. refl;
+  off = λ j no. refl;
+}
+
+-- ---- one stage more
+module _ {k : Kernel} {R : Picture ℤ} {m S w : ℕ} {u : List ℤ} {e b q : ℕ} {l l′ : List ℤ} (wide : w ≤ S) (p : Rolled k R m S w u e b q l) where
+  pub place-more : {f : ℕ} → e ≤ b → b ≤ q → q ≤ f → f ≤ m → Changed S w q f l l′ → ((c : Bool) (i x : ℕ) → q ≤ i → i < f → x < w → cell l′ (at S c i + x) ≡ planeAt R m c i x)
+      → Rolled k R m S w u e b f l′
+  place-more eb bq qf fm t new = record {
+    size = t .size ∙ p .size;
+    done = λ c i x h r. pair-before wide t c i x r (omega arith) ∙ p .done c i x h r;
+    begun = λ c i x a h r. pair-before wide t c i x r (omega arith) ∙ p .begun c i x a h r;
+    placed = λ c i x a h r. by-lt i q (λ lt. pair-before wide t c i x r lt ∙ p .placed c i x a lt r) (λ ge. new c i x ge h r);
+    left = λ c i x a h r. pair-behind wide t c i x r a ∙ p .left c i x (omega arith) h r;
+    off = λ j no. t .off j (λ c i x a h r. no c i x (omega arith) r) ∙ p .off j no;
+  }
+
+  pub begin-more : {f : ℕ} → e ≤ b → b ≤ f → f ≤ q → q ≤ m → Changed S w b f l l′ → ((c : Bool) (i x : ℕ) → b ≤ i → i < f → x < w → cell l′ (at S c i + x) ≡ begunAt k R m c i x)
+      → Rolled k R m S w u e f q l′
+  begin-more eb bf fq qm t new = record {
+    size = t .size ∙ p .size;
+    done = λ c i x h r. pair-before wide t c i x r (omega arith) ∙ p .done c i x h r;
+    begun = λ c i x a h r. by-lt i b (λ lt. pair-before wide t c i x r lt ∙ p .begun c i x a lt r) (λ ge. new c i x ge h r);
+    placed = λ c i x a h r. pair-behind wide t c i x r a ∙ p .placed c i x (omega arith) h r;
+    left = λ c i x a h r. pair-behind wide t c i x r (omega arith) ∙ p .left c i x a h r;
+    off = λ j no. t .off j (λ c i x a h r. no c i x (omega arith) r) ∙ p .off j no;
+  }
+
+  pub end-more : e < b → b ≤ q → q ≤ m → Changed S w e (e + 1) l l′ → ((c : Bool) (x : ℕ) → x < w → cell l′ (at S c e + x) ≡ back k w (endedAt k R m c e) x) → Rolled k R m S w u (e + 1) b q l′
+  end-more eb bq qm t new = record {
+    size = t .size ∙ p .size;
+    done = λ c i x h r. by-lt i e (λ lt. pair-before wide t c i x r lt ∙ p .done c i x lt r) (λ ge. let z : i ≡ e = omega arith in rw z (new c x r));
+    begun = λ c i x a h r. pair-behind wide t c i x r a ∙ p .begun c i x (omega arith) h r;
+    placed = λ c i x a h r. pair-behind wide t c i x r (omega arith) ∙ p .placed c i x a h r;
+    left = λ c i x a h r. pair-behind wide t c i x r (omega arith) ∙ p .left c i x a h r;
+    off = λ j no. t .off j (λ c i x a h r. no c i x (omega arith) r) ∙ p .off j no;
+  }
+
+-- ---- pairs that are placed
+module _ {k : Kernel} {W S w h e b q f : ℕ} (p u l l′ : List ℤ) (z : Area W w h (length p)) (wide : w ≤ S) (r : Rolled k (levelOf W S w h p u) (h / 2) S w u e b q l)
+    (t : PairsPlaced W S w (h / 2) q f p l l′) where
+  pub placed-changed : Changed S w q f l l′
+  placed-changed = record { size = t .size; off = λ j no. t .off j (λ i x a n g lt. no false i x a n lt) (λ i x a n lt. no true i x a n lt) }
+
+  -- the left part of a low row is what the levels below left there
+  left-cell : (i x : ℕ) → q ≤ i → i < h / 2 → x < w / 2 → cell l′ (2 * i * S + x) ≡ levelOf W S w h p u i x
+  left-cell i x a n lt =
+      t .off (2 * i * S + x)
+      (λ i′ x′ c d g q′ o. omega (arith, col-of S (2 * i) (2 * i′) x x′ (omega arith) (omega arith) o))
+      (λ i′ x′ c d q′ o. omega (arith, row-of S (2 * i) (2 * i′ + 1) x x′ (omega arith) (omega arith) (o ∙ at-row S true i′ x′)))
+      ∙ r .left false i x a n (omega arith) ∙ sym (level-left W S w h p u i x n lt)
+
+  pub placed-new : f ≤ h / 2 → (c : Bool) (i x : ℕ) → q ≤ i → i < f → x < w → cell l′ (at S c i + x) ≡ planeAt (levelOf W S w h p u) (h / 2) c i x
+  placed-new top false i x a n lt = by-lt x (w / 2)
+      (λ left. left-cell i x a (omega arith) left)
+      (λ right. t .low i x a n right lt ∙ sym (level-right W S w h p u i x right (omega (arith, z .wide))))
+  placed-new top true i x a n lt = t .high i x a n lt ∙ sym (level-below W S w h p u (h / 2 + i) x (omega arith) (omega (arith, z .wide)))
+
+-- ---- v rows of each part, from pair n on
+pub parts-at : {S w h size : ℕ} (n v : ℕ) → Area S w h size → 0 < v → n + v ≤ h / 2 → Parts (at S false n) (at S true n) (2 * S) v w size
+parts-at {S} {w} {h} {size} n v z some top = record {
+  some = some;
+  few = omega (arith, z .h-most);
+  lines = z .some-w;
+  wide = omega (arith, z .wide);
+  first = record { place = λ i j a c. inside false i j a c };
+  second = record { place = λ i j a c. inside true i j a c };
+  apart = λ i j i′ j′ a c a′ c′ o. omega (arith, row-of S (2 * (n + i) + 0) (2 * (n + i′) + 1) j j′ (omega (arith, z .wide)) (omega (arith, z .wide)) (sym (at-row S false (n + i) j) ∙ sym (at-more S false n i j) ∙ o ∙ at-more S true n i′ j′ ∙ at-row S true (n + i′) j′));
+}
+  where
+    in-row : (y j : ℕ) → y < h → j < w → y * S + j < size
+    in-row y j a c = omega (arith, digits-lt {q = y} {m = h} {r = j} {c = S} a (omega (arith, z .wide)), z .fits)
+
+    inside : (c : Bool) (i j : ℕ) → i < v → j < w → at S c n + i * (2 * S) + j < size
+    inside false i j a c = omega (arith, at-more S false n i j, at-row S false (n + i) j, in-row (2 * (n + i) + 0) j (omega arith) c)
+    inside true i j a c = omega (arith, at-more S true n i j, at-row S true (n + i) j, in-row (2 * (n + i) + 1) j (omega arith) c)
+
+-- ---- pairs whose columns are begun: rows b up to f of the q that are placed, from pair n on
+module _ {k : Kernel} {R : Picture ℤ} {m S w n b q f : ℕ} (u l : List ℤ) (nb : n ≤ b) (bf : b ≤ f) (fq : f ≤ q) (qm : q ≤ m) (r : Rolled k R m S w u n b q l) where
+  abbrev row : Bool → ℕ → Line ℤ
+  row c x = lane (at S c n) (2 * S) l x
+
+  begun-row : (c : Bool) (x i : ℕ) → x < w → i < b - n → row c x i ≡ begunAt k R m c (n + i) x
+  begun-row c x i h a = lane-at S c n i x l ∙ r .begun c (n + i) x (omega arith) (omega arith) h
+
+  placed-row : (c : Bool) (x i : ℕ) → x < w → b - n ≤ i → i < q - n → row c x i ≡ planeAt R m c (n + i) x
+  placed-row c x i h a d = lane-at S c n i x l ∙ r .placed c (n + i) x (omega arith) (omega arith) h
+
+  rows-hold : (x : ℕ) → x < w → Holds k n (q - n) (λ i. R i x) (λ i. R (m + i) x) (row false x) (row true x)
+  rows-hold x h = holds k m n (q - n) (b - n) (λ i. R i x) (λ i. R (m + i) x) (row false x) (row true x)
+      (λ i a. (begun-row false x i h a, begun-row true x i h a)) (λ i a d. (placed-row false x i h a d, placed-row true x i h a d))
+
+  pub rows-begin : ((x : ℕ) → x < w → AllWithin (2 ^ 28) m (λ i. R i x)) → ((x : ℕ) → x < w → AllWithin (2 ^ 24) m (λ i. R (m + i) x))
+      → Begins k (at S false n) (at S true n) (2 * S) (q - n) w (b - n) (f - n) l
+  rows-begin lows highs = begins (at S false n) (at S true n) (2 * S) (q - n) w (b - n) (f - n) l m n (λ x i. R i x) (λ x i. R (m + i) x) (omega arith) (omega arith) lows highs
+      (λ i x a d h. (placed-row false x i h a (omega arith), placed-row true x i h a (omega arith))) k rows-hold
+
+  module _ {l′ : List ℤ} (back-far : b < f → n ≤ b - 2) (ahead : min (f + 2) m ≤ q) (t : Both (begunFirst k (q - n)) (begunSecond k (q - n)) (at S false n) (at S true n) (2 * S) w (b - n) (f - n) l l′) where
+    pub begun-changed : Changed S w b f l l′
+    begun-changed = record {
+      size = t .size;
+      off = λ j no. t .off j
+          (λ i x a d h o. no false (n + i) x (omega arith) (omega arith) h (o ∙ at-more S false n i x))
+          (λ i x a d h o. no true (n + i) x (omega arith) (omega arith) h (o ∙ at-more S true n i x));
+    }
+
+    begun-here : (x i : ℕ) → x < w → b - n ≤ i → i < f - n
+        → (begunFirst k (q - n) (row false x) (row true x) i ≡ begunAt k R m false (n + i) x) × (begunSecond k (q - n) (row false x) (row true x) i ≡ begunAt k R m true (n + i) x)
+    begun-here x i h a d =
+        let far = back-far (omega arith) in
+        begun-there k m n (q - n) i (λ i. R i x) (λ i. R (m + i) x) (row false x) (row true x) (omega arith) (omega arith) (omega arith) (omega arith) (rows-hold x h)
+        (placed-row false x i h a (omega arith)) (placed-row true x i h a (omega arith))
+
+    pub begun-new : (c : Bool) (i x : ℕ) → b ≤ i → i < f → x < w → cell l′ (at S c i + x) ≡ begunAt k R m c i x
+    begun-new c i x a d h = let g : n + (i - n) ≡ i = omega arith in let s = at-window c (i - n) (omega arith) (omega arith) in rw g at s
+      where
+        at-window : (c : Bool) (j : ℕ) → b - n ≤ j → j < f - n → cell l′ (at S c (n + j) + x) ≡ begunAt k R m c (n + j) x
+        at-window false j y v = sym (lane-at S false n j x l′) ∙ t .first j x y v h ∙ begun-here x j h y v .0
+        at-window true j y v = sym (lane-at S true n j x l′) ∙ t .second j x y v h ∙ begun-here x j h y v .1
+
+-- ---- a pair that is ended, in the rows up to b that are begun
+module _ {k : Kernel} {R : Picture ℤ} {m S w n b q : ℕ} (u l : List ℤ) (nb : n < b) (bq : b ≤ q) (qm : q ≤ m) (ahead : min (n + 2) m ≤ b) (r : Rolled k R m S w u n b q l) where
+  window-row : (c : Bool) (x : ℕ) → x < w → Agree (b - n) (lane (at S c n) (2 * S) l x) (λ i. begunAt k R m c (n + i) x)
+  window-row c x h i a = lane-at S c n i x l ∙ r .begun c (n + i) x (omega arith) (omega arith) h
+
+  ended-both : (x : ℕ) → x < w → (endedRow false k (b - n) (at S false n) S l x ≡ endedAt k R m false n x) × (endedRow true k (b - n) (at S false n) S l x ≡ endedAt k R m true n x)
+  ended-both x h = ended-behind k m n (b - n) (λ i. begunAt k R m false i x) (λ i. begunAt k R m true i x) _ _ (omega arith) (omega arith) (omega arith) (window-row false x h) (window-row true x h)
+
+  pub ended-is : (c : Bool) (x : ℕ) → x < w → endedRow c k (b - n) (at S false n) S l x ≡ endedAt k R m c n x
+  ended-is false x h = ended-both x h .0
+  ended-is true x h = ended-both x h .1
+
+  module _ (lows : (x : ℕ) → x < w → AllWithin (2 ^ 28) m (λ i. R i x)) (highs : (x : ℕ) → x < w → AllWithin (2 ^ 24) m (λ i. R (m + i) x)) where
+    pub lows-near : Bounded (2 ^ 29) (at S false n) (2 * S) (b - n) w l
+    lows-near = record { each = λ x h i a. rw (window-row false x h i a) (begun-first m _ _ (lows x h) (highs x h) k (n + i) (omega arith)) }
+
+    pub highs-near : Bounded (2 ^ 29) (at S true n) (2 * S) (b - n) w l
+    highs-near = record { each = λ x h i a. rw (window-row true x h i a) (begun-second m _ _ (lows x h) (highs x h) k (n + i) (omega arith)) }
+
+  module _ {l′ : List ℤ} (even : w % 2 ≡ 0) (t : PairBack k (b - n) (at S false n) S w l l′) where
+    pub ended-changed : Changed S w n (n + 1) l l′
+    ended-changed = record { size = t .size; off = λ j no. t .off j (λ x h. no false n x (omega arith) (omega arith) h) (λ x h. no true n x (omega arith) (omega arith) h) }
+
+    pub ended-new : (c : Bool) (x : ℕ) → x < w → cell l′ (at S c n + x) ≡ back k w (endedAt k R m c n) x
+    ended-new false x h = t .low x h ∙ back-local k w _ _ even (ended-is false) x h
+    ended-new true x h = t .high x h ∙ back-local k w _ _ even (ended-is true) x h
+
+-- ---- the whole level
+module _ (h : ℕ) (k : Kernel) where
+  back-even : (Y : Line ℤ) (i : ℕ) → back k h Y (2 * i) ≡ undoneEvens k (h / 2) Y (behind (h / 2) Y) i
+  unfolding back
+  back-even Y i = paired-even _ _ i
+
+  back-odd : (Y : Line ℤ) (i : ℕ) → back k h Y (2 * i + 1) ≡ undoneOdds k (h / 2) Y (behind (h / 2) Y) i
+  unfolding back
+  back-odd Y i = paired-odd _ _ i
+
+module _ (w h : ℕ) (k : Kernel) (R : Picture ℤ) (even : h % 2 ≡ 0) where
+  -- the columns of a pair that is ended are taken back
+  pub ended-column : (c : Bool) (i x : ℕ) → i < h / 2 → x < w → endedAt k R (h / 2) c i x ≡ colPass (back k) w h R (2 * i + bit c) x
+  ended-column false i x a b =
+      ended-first k (h / 2) (λ n. R n x) (λ n. R (h / 2 + n) x) i a ∙ sym (back-even h k (turned R x) i) ∙ ap (back k h (turned R x)) (omega arith)
+      ∙ sym (row-cell (back k) h w x (2 * i + 0) (turned R) b (omega arith))
+  ended-column true i x a b =
+      ended-second k (h / 2) (λ n. R n x) (λ n. R (h / 2 + n) x) i a ∙ sym (back-odd h k (turned R x) i) ∙ sym (row-cell (back k) h w x (2 * i + 1) (turned R) b (omega arith))
+
+  pub ended-takes : w % 2 ≡ 0 → (c : Bool) (i : ℕ) {X : Line ℤ} → i < h / 2 → ((x : ℕ) → x < w → X x ≡ endedAt k R (h / 2) c i x) → ((y : ℕ) → y < h → Takes true w (colPass (back k) w h R y)) → Takes true w X
+  ended-takes even-w false i a e all = takes-agree true w _ _ even-w (λ x b. sym (e x b ∙ ended-column false i x a b)) (all (2 * i + 0) (omega arith))
+  ended-takes even-w true i a e all = takes-agree true w _ _ even-w (λ x b. sym (e x b ∙ ended-column true i x a b)) (all (2 * i + 1) (omega arith))
+
+  pub level-cell : {S q : ℕ} {u l : List ℤ} → w % 2 ≡ 0 → Rolled k R (h / 2) S w u (h / 2) (h / 2) q l → (y x : ℕ) → y < h → x < w → cell l (y * S + x) ≡ rowPass (back k) w h (colPass (back k) w h R) y x
+  level-cell {S} {q} {u} {l} even-w r y x i j = by-parity (λ v. v < h → cell l (v * S + x) ≡ rowPass (back k) w h (colPass (back k) w h R) v x)
+      (λ n b. let e : 2 * n + 0 ≡ 2 * n = omega arith in let t = here false n (omega arith) in rw e at t)
+      (λ n b. ap (cell l) (sym (at-row S true n x)) ∙ here true n b) y i
+    where
+      here : (c : Bool) (n : ℕ) → 2 * n + bit c < h → cell l (at S c n + x) ≡ rowPass (back k) w h (colPass (back k) w h R) (2 * n + bit c) x
+      here false n b = r .done false n x (omega arith) j ∙ back-local k w _ _ even-w (λ v a. ended-column false n v (omega arith) a) x j ∙ sym (row-cell (back k) w h (2 * n + 0) x (colPass (back k) w h R) b j)
+      here true n b = r .done true n x (omega arith) j ∙ back-local k w _ _ even-w (λ v a. ended-column true n v (omega arith) a) x j ∙ sym (row-cell (back k) w h (2 * n + 1) x (colPass (back k) w h R) b j)
+
+pub level-done : {W S w h q : ℕ} (k : Kernel) (p u l : List ℤ) → Area S w h (length u) → Rolled k (levelOf W S w h p u) (h / 2) S w u (h / 2) (h / 2) q l → LevelBack k W S w h p u l
+level-done {W} {S} {w} {h} k p u l z r = record {
+  size = r .size;
+  inside = λ y x i j. level-cell w h k (levelOf W S w h p u) (z .even-h) (z .even-w) r y x i j;
+  off = λ j no. r .off j (λ c i x a b o. outside c i x a b j o no);
+}
+  where
+    outside : (c : Bool) (i x : ℕ) → i < h / 2 → x < w → (j : ℕ) → j ≡ at S c i + x → ((y v : ℕ) → y < h → v < w → j ≡ y * S + v → ⊥) → ⊥
+    outside false i x a b j o miss = miss (2 * i + 0) x (omega (arith, z .even-h)) b (o ∙ at-row S false i x)
+    outside true i x a b j o miss = miss (2 * i + 1) x (omega (arith, z .even-h)) b (o ∙ at-row S true i x)
+
+-- ---- how far the stages are ahead of each other
+pub record Ahead (m n b q : ℕ) : Type 0 where
+  pub near : n ≤ b
+  pub most : b ≤ n + 2
+  pub order : b ≤ q
+  pub room : q ≤ n + 4
+  pub top : q ≤ m
+  pub far : b < m → n ≤ b - 2
+
+pub ahead-none : (m : ℕ) → Ahead m 0 0 0
+ahead-none m = record { near = omega arith; most = omega arith; order = omega arith; room = omega arith; top = omega arith; far = λ h. omega arith }
+
+least-is : (a m : ℕ) → (min a m ≤ a) × (min a m ≤ m) × (min a m < m → min a m ≡ a)
+least-is a m = (omega arith, omega arith, λ h. omega arith)
+
+module _ {m n b q f g : ℕ} (h : n < m) (s : Ahead m n b q) (x : f ≡ min (n + 3) m) (y : g ≡ min (n + 5) m) where
+  pub ahead-more : Ahead m (n + 1) f g
+  ahead-more = let v = least-is (n + 3) m in let w = least-is (n + 5) m in record {
+    near = omega (arith, x);
+    most = omega (arith, x, v .0);
+    order = rw (x, y) (omega arith);
+    room = omega (arith, y, w .0);
+    top = omega (arith, y, w .1);
+    far = λ l. let e : f ≡ n + 3 = x ∙ v .2 (rw x at l) in omega (arith, e);
+  }
+
+  pub more-begun : b ≤ f
+  more-begun = rw x (omega (arith, s .most, s .order, s .top))
+
+  pub more-placed : q ≤ g
+  more-placed = rw y (omega (arith, s .room, s .top))
+
+  pub begin-ahead : min (f + 2) m ≤ g
+  begin-ahead = rw (x, y) (omega arith)
+
+  pub end-ahead : min (n + 2) m ≤ f
+  end-ahead = rw x (omega arith)
+
+  pub far-back : b < f → n ≤ b - 2
+  far-back l = s .far (omega (arith, ahead-more .order, ahead-more .top))
+
+pub pairs-area : {S w h size : ℕ} → Area S w h size → Area S w (2 * (h / 2)) size
+pairs-area {h = h} z = let e : 2 * (h / 2) ≡ h = omega (arith, z .even-h) in rw e z
+
+-- ---- one turn: pairs are placed up to g, begun up to f, and pair n is ended
+module _ (k : Kernel) (W S w h : ℕ) (p u : List ℤ) (y : Area W w h (length p)) (z : Area S w h (length u))
+    (cols : (x : ℕ) → x < w → Takes true h (turned (levelOf W S w h p u) x)) (rows : (v : ℕ) → v < h → Takes true w (colPass (back k) w h (levelOf W S w h p u) v))
+    {n b q f g : ℕ} (lt : n < h / 2) (s : Ahead (h / 2) n b q) (x : f ≡ min (n + 3) (h / 2)) (v : g ≡ min (n + 5) (h / 2)) where
+  module _ {l l₁ : List ℤ} (r : Rolled k (levelOf W S w h p u) (h / 2) S w u n b q l) (t : PairsPlaced W S w (h / 2) q g p l l₁) where
+    after-place : Rolled k (levelOf W S w h p u) (h / 2) S w u n b g l₁
+    after-place = let a = ahead-more lt s x v in
+        place-more (z .wide) r (s .near) (s .order) (more-placed lt s x v) (a .top) (placed-changed p u l l₁ y (z .wide) r t) (placed-new p u l l₁ y (z .wide) r t (a .top))
+
+    pub begin-asks : Begins k (at S false n) (at S true n) (2 * S) (g - n) w (b - n) (f - n) l₁
+    begin-asks = let a = ahead-more lt s x v in
+        rows-begin u l₁ (s .near) (more-begun lt s x v) (a .order) (a .top) after-place (λ j h. cols j h .takes .0) (λ j h. cols j h .takes .1)
+
+    module _ {l₂ : List ℤ} (t₂ : Both (begunFirst k (g - n)) (begunSecond k (g - n)) (at S false n) (at S true n) (2 * S) w (b - n) (f - n) l₁ l₂) where
+      after-begin : Rolled k (levelOf W S w h p u) (h / 2) S w u n f g l₂
+      after-begin = let a = ahead-more lt s x v in let bf = more-begun lt s x v in let far = far-back lt s x v in let near = begin-ahead lt s x v in
+          begin-more (z .wide) after-place (s .near) bf (a .order) (a .top)
+          (begun-changed u l₁ (s .near) bf (a .order) (a .top) after-place far near t₂) (begun-new u l₁ (s .near) bf (a .order) (a .top) after-place far near t₂)
+
+      some : n < f
+      some = omega (arith, ahead-more lt s x v .near)
+
+      pub end-asks : Bounded (2 ^ 29) (at S false n) (2 * S) (f - n) w l₂ × Bounded (2 ^ 29) (at S true n) (2 * S) (f - n) w l₂
+          × Takes true w (endedRow false k (f - n) (at S false n) S l₂) × Takes true w (endedRow true k (f - n) (at S false n) S l₂)
+      end-asks = let a = ahead-more lt s x v in let near = end-ahead lt s x v in let R = levelOf W S w h p u in (
+        lows-near u l₂ some (a .order) (a .top) near after-begin (λ j h. cols j h .takes .0) (λ j h. cols j h .takes .1),
+        highs-near u l₂ some (a .order) (a .top) near after-begin (λ j h. cols j h .takes .0) (λ j h. cols j h .takes .1),
+        ended-takes w h k R (z .even-h) (z .even-w) false n lt (ended-is u l₂ some (a .order) (a .top) near after-begin false) rows,
+        ended-takes w h k R (z .even-h) (z .even-w) true n lt (ended-is u l₂ some (a .order) (a .top) near after-begin true) rows,
+      )
+
+      pub after-end : {l₃ : List ℤ} → PairBack k (f - n) (at S false n) S w l₂ l₃ → Rolled k (levelOf W S w h p u) (h / 2) S w u (n + 1) f g l₃
+      after-end t₃ = let a = ahead-more lt s x v in let near = end-ahead lt s x v in
+          end-more (z .wide) after-begin some (a .order) (a .top) (ended-changed u l₂ some (a .order) (a .top) near after-begin (z .even-w) t₃) (ended-new u l₂ some (a .order) (a .top) near after-begin (z .even-w) t₃)

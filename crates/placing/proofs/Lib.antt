@@ -1,3 +1,0 @@
--- The laws of coefficients that are placed.
-pub mod Rows
-pub mod Placing

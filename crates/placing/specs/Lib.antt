@@ -1,2 +1,0 @@
--- What the contract on placing cites.
-pub mod Placed
