@@ -58,9 +58,6 @@ module _ {A : Type 0} (w n : ℕ) (X : Line A) where
   woven-odd = paired-odd X (behind (lowSide w) X) n
 
 module _ {A : Type 0} where
-  pub parted-local : Local {A = A} parted
-  parted-local w X Y even a n h = parted-source w n X ∙ a (source w n) (source-lt w n even h) ∙ sym (parted-source w n Y)
-
   pub woven-local : Local {A = A} woven
   woven-local w X Y even a = by-parity (λ x. x < w → woven w X x ≡ woven w Y x)
       (λ n h. woven-even w n X ∙ a n (omega arith) ∙ sym (woven-even w n Y))

@@ -1,11 +1,12 @@
 -- The way back of a level, pair after pair of rows.
 --
---   planeAt R m c i x   == what it holds when it is placed: number x of low row i, or of high row i, of the level R
---   begunAt k R m c i x == after the first step of its columns
+--   planeAt R m c i x   == number x of the low row, or of the high row, of pair i of the level R, as it is placed
+--   begunAt k R m c i x == after the first step of the columns
 --   endedAt k R m c i x == after their last step
 --   Changed S w d f l l′ == l′ is l but for the pairs d up to f
---   Rolled k R m S w h u e b q l
+--   Rolled k R m S w u e b q l
 --                       == so far l is u with its first e pairs taken back, those up to b after the first step, and those up to q placed
+--   Ahead m n b q       == pairs are begun up to b and placed up to q, of m, when the first n are taken back
 --
 -- Assumes nothing.
 use mathlib.Core.Path.{_≡_, refl, sym, ap, _∙_}
@@ -275,25 +276,29 @@ pub record Ahead (m n b q : ℕ) : Type 0 where
 pub ahead-none : (m : ℕ) → Ahead m 0 0 0
 ahead-none m = record { near = omega arith; most = omega arith; order = omega arith; room = omega arith; top = omega arith; far = λ h. omega arith }
 
-least-is : (a m : ℕ) → (min a m ≤ a) × (min a m ≤ m) × (min a m < m → min a m ≡ a)
-least-is a m = (omega arith, omega arith, λ h. omega arith)
+-- how far pairs are begun and placed when pair n is ended
+abbrev pub begunTo : ℕ → ℕ → ℕ
+begunTo m n = min (n + 3) m
 
-module _ {m n b q f g : ℕ} (h : n < m) (s : Ahead m n b q) (x : f ≡ min (n + 3) m) (y : g ≡ min (n + 5) m) where
+abbrev pub placedTo : ℕ → ℕ → ℕ
+placedTo m n = min (n + 5) m
+
+module _ {m n b q f g : ℕ} (h : n < m) (s : Ahead m n b q) (x : f ≡ begunTo m n) (y : g ≡ placedTo m n) where
   pub ahead-more : Ahead m (n + 1) f g
-  ahead-more = let v = least-is (n + 3) m in let w = least-is (n + 5) m in record {
+  ahead-more = record {
     near = omega (arith, x);
-    most = omega (arith, x, v .0);
-    order = rw (x, y) (omega arith);
-    room = omega (arith, y, w .0);
-    top = omega (arith, y, w .1);
-    far = λ l. let e : f ≡ n + 3 = x ∙ v .2 (rw x at l) in omega (arith, e);
+    most = omega (arith, x);
+    order = omega (arith, x, y);
+    room = omega (arith, y);
+    top = omega (arith, y);
+    far = λ l. omega (arith, x);
   }
 
   pub more-begun : b ≤ f
-  more-begun = rw x (omega (arith, s .most, s .order, s .top))
+  more-begun = omega (arith, x, s .most, s .order, s .top)
 
   pub more-placed : q ≤ g
-  more-placed = rw y (omega (arith, s .room, s .top))
+  more-placed = omega (arith, y, s .room, s .top)
 
   pub begin-ahead : min (f + 2) m ≤ g
   begin-ahead = rw (x, y) (omega arith)
@@ -310,7 +315,7 @@ pairs-area {h = h} z = let e : 2 * (h / 2) ≡ h = omega (arith, z .even-h) in r
 -- ---- one turn: pairs are placed up to g, begun up to f, and pair n is ended
 module _ (k : Kernel) (W S w h : ℕ) (p u : List ℤ) (y : Area W w h (length p)) (z : Area S w h (length u))
     (cols : (x : ℕ) → x < w → Takes true h (turned (levelOf W S w h p u) x)) (rows : (v : ℕ) → v < h → Takes true w (colPass (back k) w h (levelOf W S w h p u) v))
-    {n b q f g : ℕ} (lt : n < h / 2) (s : Ahead (h / 2) n b q) (x : f ≡ min (n + 3) (h / 2)) (v : g ≡ min (n + 5) (h / 2)) where
+    {n b q f g : ℕ} (lt : n < h / 2) (s : Ahead (h / 2) n b q) (x : f ≡ begunTo (h / 2) n) (v : g ≡ placedTo (h / 2) n) where
   module _ {l l₁ : List ℤ} (r : Rolled k (levelOf W S w h p u) (h / 2) S w u n b q l) (t : PairsPlaced W S w (h / 2) q g p l l₁) where
     after-place : Rolled k (levelOf W S w h p u) (h / 2) S w u n b g l₁
     after-place = let a = ahead-more lt s x v in

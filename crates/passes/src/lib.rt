@@ -159,8 +159,9 @@ fn pair_back(
     row(kernel, true, l, q, at + stride, w / 2);
 }
 
-// A level's way back, from the plane and from what every other row of l holds of the levels below: pair after pair of rows is placed, its
-// columns' first step follows two pairs behind, since kernel 2 looks two rows ahead, and two pairs behind that their last step and the rows.
+// A level's way back, from the plane and from what every other row of l holds of the levels below. Pairs of rows are placed, two pairs behind
+// their columns' first step is done, and two pairs behind that their last step and the rows, all while they are in the cache: the first
+// step of kernel 2 looks two rows back and ahead.
 pub fn level_back(
     kernel: Kernel,
     plane: &[i32],

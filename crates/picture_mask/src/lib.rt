@@ -2,7 +2,7 @@
 // coefficient ends, so that its passes move nothing; the deeper levels go through working memory.
 ghost use mathlib.Core.Path.{_≡_};
 ghost use mathlib.Core.Bool.{Bool, true};
-ghost use Prim.Native.Nat.{_*_, _-_, _/_, _%_, _<_, _≤_, min};
+ghost use Prim.Native.Nat.{_*_, _-_, _/_, _%_, _<_, _≤_};
 ghost use lib.ListN.{length};
 ghost use Rattle.grid.specs.Picture.{Picture, rowPass, colPass, walk, picture};
 ghost use Rattle.grid.specs.Buffer.{InBuffer, Lines, Halves};

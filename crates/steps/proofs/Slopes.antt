@@ -2,7 +2,7 @@
 --
 --   halved i o h == h + o − i: half of 3 · o − 2 · i, where h is half of o
 --   eighth i q   == 3 · i − 4 + q: an eighth of 22 · i + 3 · o − 32, where q is a quarter of that half
-use mathlib.Core.Path.{_≡_, ap, _∙_}
+use mathlib.Core.Path.{_≡_}
 use Prim.Native.Nat.{ℕ, _+_, _*_, _^_, _<_}
 use native.Mathlib.Omega.{arith}
 use lib.IntN.{ℤ, pos, _+ℤ_, _-ℤ_, _*ℤ_}
@@ -10,7 +10,7 @@ use mir.Syntax.{w32}
 use mir.Val.{SFits}
 use Rattle.whole.specs.Floor.{floorDiv}
 use Rattle.whole.specs.Within.{Within}
-use Rattle.whole.proofs.Linear.{ι-split, lin}
+use Rattle.whole.proofs.Linear.{ι-split}
 use Rattle.whole.proofs.Floored.{whole}
 use Rattle.whole.proofs.Run.{Ex, var, lit, _⊕_, _⊖_, _⊛_, value, Run}
 use Rattle.line.specs.Formulas.{slopeTT}

@@ -1,5 +1,5 @@
 -- From buffers to pictures: what the entries lend and fill. Assumes nothing.
-use mathlib.Core.Path.{_≡_, sym, ap, subst, _∙_, fun-ext}
+use mathlib.Core.Path.{_≡_, sym, ap, subst, _∙_}
 use mathlib.Core.Bool.{true}
 use mathlib.Core.List.{List}
 use Prim.Native.Nat.{ℕ, zero, suc, _+_, _*_, _-_, _/_, _%_, _^_, _<_, _≤_}
@@ -7,14 +7,13 @@ use native.Mathlib.Nat.{mul-comm, mod-lt, div-lt-iff-lt-mul}
 use native.Mathlib.Omega.{arith}
 use lib.Arith.{digits-lt}
 use lib.IntN.{ℤ, pos, negsuc, natAbs}
-use lib.ListN.{length, getD, List·getD-eq-default}
+use lib.ListN.{length, getD}
 use Rattle.whole.specs.Within.{Within}
 use Rattle.kernel.specs.declared.Kernel.{Kernel}
 use Rattle.kernel.specs.Kernels.{theKernel}
-use Rattle.line.proofs.Cells.{by-lt}
 use Rattle.line.proofs.Bounds.{within-more}
-use Rattle.grid.specs.Picture.{Picture, picture}
-use Rattle.grid.proofs.Passes.{cell, cell-past, cell-of}
+use Rattle.grid.specs.Picture.{Picture}
+use Rattle.grid.proofs.Passes.{cell, cell-of}
 use Rattle.plane.specs.Inner.{Below}
 use Rattle.plane.specs.Plane.{transformed, undone}
 use Rattle.refusal.specs.Results.{Result}

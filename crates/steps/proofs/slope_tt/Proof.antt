@@ -6,7 +6,7 @@ use lib.IntN.{_+ℤ_, _-ℤ_}
 use mir.Syntax.{w32}
 use mir.Facts.{toZ-ofZ}
 use Rattle.whole.specs.Floor.{floorDiv}
-use Rattle.whole.proofs.Run.{var, _⊖_, value, Run, l, asks}
+use Rattle.whole.proofs.Run.{var, _⊖_, Run, l, asks}
 use Rattle.steps.proofs.Sums.{less, less-within, floored}
 use Rattle.steps.proofs.Slopes.{halved, eighth, halved-run, eighth-run, slope-is, slope-of}
 use Rattle.steps.proofs.slope_tt.Statement.{statement}
