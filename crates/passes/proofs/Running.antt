@@ -2,7 +2,7 @@
 use mathlib.Core.Path.{_≡_, sym, ap, subst, _∙_}
 use mathlib.Core.Bool.{Bool, true, false}
 use mathlib.Core.List.{List}
-use Prim.Native.Nat.{ℕ, _+_, _*_, _/_, _%_, _^_, _<_, _≤_}
+use Prim.Native.Nat.{ℕ, _+_, _*_, _-_, _/_, _%_, _^_, _<_, _≤_}
 use native.Mathlib.Nat.{mul-comm, mul-le-mul-left, div-mul-le-self, div-lt-iff-lt-mul}
 use native.Mathlib.Omega.{arith}
 use lib.Arith.{digits-lt}
@@ -35,6 +35,10 @@ takes-agree false w X Y even a t = record { takes = λ i h. rw (← a i h) (t .t
 takes-agree true w X Y even a t = record {
   takes = ((λ i h. rw (← a i (omega arith)) (t .takes .0 i h)), (λ i h. rw (← a (w / 2 + i) (omega arith)) (t .takes .1 i h)));
 }
+
+-- of an even number, what is left of its half
+pub half-left : (n : ℕ) → n % 2 ≡ 0 → n - n / 2 ≡ n / 2
+half-left n even = omega arith
 
 pub area-same : {stride w h n m : ℕ} → Area stride w h n → m ≡ n → Area stride w h m
 area-same z e = rw e z

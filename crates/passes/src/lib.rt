@@ -93,42 +93,45 @@ pub fn columns(kernel: Kernel, l: &mut [i32], stride: usize, w: usize, h: usize)
     requires { ⌜ ((x : ℕ) → x < w → Takes false h (woven h (turned (picture (pos 0) stride (now l)) x))) ⌝ }
     ensures { λ _. ⌜ picture (pos 0) stride (now (l .exit)) ≡ colPass (onWoven (forward kernel)) w h (picture (pos 0) stride (now (l .entry))) ⌝ }
 {
-    let m = h / 2;
-    lifting::forward(kernel, l, 0, m * stride, stride, m, w);
+    let highs = h / 2;
+    let lows = h - highs;
+    lifting::forward(kernel, l, 0, lows * stride, stride, highs, w);
 }
 
-// Of a level of w by 2m coefficients, from the plane: the right part of low row n to row 2n, and high row n to row 2n + 1, for n from a up to b.
+// Of a level's coefficients, from the plane: the right part of low row n to row 2n, and high row n, behind all low rows, to row 2n + 1, for n from
+// a up to b.
 fn place_pairs(
     plane: &[i32],
     l: &mut [i32],
     width: usize,
     stride: usize,
     w: usize,
-    m: usize,
+    lows: usize,
     a: usize,
     b: usize,
 )
-    requires { ⌜ (a ≤ b) × (b ≤ m) ⌝ }
-    requires { ⌜ Area width w (2 * m) (length (now plane)) ⌝ }
-    requires { ⌜ Area stride w (2 * m) (length (now l)) ⌝ }
-    ensures { λ _. ⌜ PairsPlaced width stride w m a b (now (plane .entry)) (now (l .entry)) (now (l .exit)) ⌝ }
+    requires { ⌜ (a ≤ b) × (b ≤ lows) ⌝ }
+    requires { ⌜ Area width w (2 * lows) (length (now plane)) ⌝ }
+    requires { ⌜ Area stride w (2 * lows) (length (now l)) ⌝ }
+    ensures { λ _. ⌜ PairsPlaced width stride w lows a b (now (plane .entry)) (now (l .entry)) (now (l .exit)) ⌝ }
 {
-    let half = w / 2;
+    let right = w / 2;
+    let left = w - right;
     let at = 2 * a * stride;
     transfer::numbers::copy_rows(
         plane,
         l,
-        a * width + half,
+        a * width + left,
         width,
-        at + half,
+        at + left,
         2 * stride,
         b - a,
-        half,
+        right,
     );
     transfer::numbers::copy_rows(
         plane,
         l,
-        (m + a) * width,
+        (lows + a) * width,
         width,
         at + stride,
         2 * stride,
@@ -179,14 +182,15 @@ pub fn level_back(
     requires { ⌜ ((y : ℕ) → y < h → Takes true w (colPass (back kernel) w h (levelOf width stride w h (now plane) (now l)) y)) ⌝ }
     ensures { λ _. ⌜ LevelBack kernel width stride w h (now (plane .entry)) (now (l .entry)) (now (l .exit)) ⌝ }
 {
-    let m = h / 2;
+    let highs = h / 2;
+    let lows = h - highs;
     let mut placed: usize = 0;
     let mut begun: usize = 0;
-    for n in 0..m {
-        let to_place = whole::least(n + 5, m);
-        let to_begin = whole::least(n + 3, m);
+    for n in 0..highs {
+        let to_place = whole::least(n + 5, highs);
+        let to_begin = whole::least(n + 3, highs);
         let at = 2 * n * stride;
-        place_pairs(plane, l, width, stride, w, m, placed, to_place);
+        place_pairs(plane, l, width, stride, w, lows, placed, to_place);
         lifting::begin_rows(
             kernel,
             l,
@@ -230,7 +234,7 @@ pub fn rows_in(kernel: Kernel, samples: &[u16], l: &mut [i32], w: usize, h: usiz
     ensures { λ _. ⌜ picture (pos 0) w (now (l .exit)) ≡ colPass parted w h (rowPass (forward kernel) w h (pictured w (now (samples .entry)))) ⌝ }
 {
     for i in 0..h {
-        let y = source_row(h / 2, i);
+        let y = source_row(h - h / 2, i);
         row_in(kernel, samples, l, y * w, i * w, w / 2);
     }
 }

@@ -4,6 +4,7 @@ use mathlib.Core.Path.{_≡_}
 use Prim.Native.Nat.{_*_, _-_, _^_, _<_}
 use native.Mathlib.Omega.{arith}
 use Rattle.grid.proofs.Parted.{source, source-lt}
+use Rattle.passes.proofs.Running.{half-left}
 use Rattle.passes.proofs.Placing.{RowsIn, source-of, row-within, row-ends, rows-in-none, rows-in-more, rows-in-all}
 use Rattle.passes.proofs.rows_in.Statement.{statement}
 use Rattle.passes.proofs.rows_in.Tie as tie
@@ -16,7 +17,8 @@ abbrev μ-loop : tie.MeasureT-loop
 
 -- the row that is taken
 taken : (c : tie.After-source-row Inv-loop μ-loop) → c .source-row .result ≡ source (c .before .before .before .before .args .h) (c .before .before .loop .i)
-taken c = source-of (c .before .before .before .before .args .h) (c .before .before .loop .i) (c .source-row .ensures .0) (c .source-row .ensures .1)
+taken c = let s = c .before .before .before .before in let e = half-left (s .args .h) (s .pre .0 .even-h) in
+    source-of (s .args .h) (c .before .before .loop .i) (rw e at (c .source-row .ensures .0)) (rw e at (c .source-row .ensures .1))
 
 inside : (c : tie.After-source-row Inv-loop μ-loop) → c .source-row .result < c .before .before .before .before .args .h
 inside c = rw (taken c) (source-lt (c .before .before .before .before .args .h) (c .before .before .loop .i) (c .before .before .before .before .pre .0 .even-h) (c .before .loop-test .taken))
@@ -27,6 +29,7 @@ rows-in-spec =
     Inv-loop
     μ-loop
     (λ c. rows-in-none _ _ _ _ _)
+    (λ c. omega arith)
     (λ c κs. omega (arith, c .before .before .before .pre .0 .h-most))
     (λ c. let s = c .before .before .before .before .before in omega (arith, row-ends (s .args .w) (s .args .h) (c .before .source-row .result) (s .pre .0 .some-w) (inside (c .before)), s .pre .1 .0))
     (λ c. let s = c .before .before .before .before .before in omega (arith, row-ends (s .args .w) (s .args .h) (c .before .before .before .loop .i) (s .pre .0 .some-w) (c .before .before .loop-test .taken), s .pre .1 .0))
