@@ -2,3 +2,4 @@
 pub mod Rows
 pub mod Lifts
 pub mod Stages
+pub mod TwoSteps

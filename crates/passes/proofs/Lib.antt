@@ -8,3 +8,4 @@ pub mod Pairs
 pub mod PairPlaces
 pub mod Level
 pub mod Rolling
+pub mod Turns

@@ -1,7 +1,7 @@
 -- `lifting::back` takes lines back by any kernel, in two steps. Assumes nothing.
 use borrow.Author.Needs.{needs}
 use Rattle.lifting.proofs.Rows.{parts-as}
-use Rattle.lifting.proofs.Stages.{begun-lows, begun-highs, both-steps}
+use Rattle.lifting.proofs.TwoSteps.{begun-lows, begun-highs, both-steps}
 use Rattle.lifting.proofs.back.Statement.{statement}
 use Rattle.lifting.proofs.back.Tie as tie
 

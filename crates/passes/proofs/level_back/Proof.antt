@@ -9,7 +9,8 @@ use Rattle.lifting.proofs.Rows.{parts-as}
 use Rattle.passes.specs.Levels.{levelOf}
 use Rattle.passes.proofs.Running.{half-left, area-same}
 use Rattle.passes.proofs.PairPlaces.{row-places}
-use Rattle.passes.proofs.Rolling.{Ahead, Rolled, ahead-none, rolled-none, ahead-more, more-begun, more-placed, pairs-area, parts-at, level-done, begin-asks, end-asks, after-end}
+use Rattle.passes.proofs.Rolling.{Rolled, rolled-none, parts-at, level-done}
+use Rattle.passes.proofs.Turns.{Ahead, ahead-none, ahead-more, more-begun, more-placed, pairs-area, begin-asks, end-asks, after-end}
 use Rattle.passes.proofs.level_back.Statement.{statement}
 use Rattle.passes.proofs.level_back.Tie as tie
 
