@@ -8,6 +8,7 @@
 --   Pairable join .. l    == that for the rows d up to e of the parts at a and b
 --   predicted s M A B     == the differences, less the amounts of step s from the means
 --   again s M A B         == the highs B, with the amounts of step s from the lows A
+--   RowsWithin r .. d e l == the numbers of rows d up to e of a part are within r
 --   Begins k .. d e l     == what the first step of kernel k's way back takes, on rows d up to e: the part that it looks at, and those rows of the other
 --   begunFirst k M A B    == the way back, its first step done: the first part, from the lows A and the highs B
 --   begunSecond k M A B   == the second part

@@ -4,7 +4,7 @@ use std::time::{Duration, Instant};
 
 const MOST_ROUNDS: usize = 30;
 const LEAST_ROUNDS: usize = 3;
-const ENOUGH: Duration = Duration::from_millis(800);
+const ENOUGH: Duration = Duration::from_millis(2000);
 /// Work shorter than this is repeated within its turn, since the turns of the
 /// others leave the caches cold.
 const SHORT: Duration = Duration::from_millis(20);
