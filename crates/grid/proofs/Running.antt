@@ -4,9 +4,9 @@
 --   ColsPassed == the columns up to x are
 --
 -- Assumes nothing.
-use mathlib.Core.Path.{_≡_, refl, subst, _∙_}
+use mathlib.Core.Path.{_≡_, refl, _∙_}
 use mathlib.Core.List.{List}
-use Prim.Native.Nat.{ℕ, _+_, _*_, _/_, _%_, _<_, _≤_}
+use Prim.Native.Nat.{ℕ, _+_, _*_, _%_, _<_, _≤_}
 use native.Mathlib.Omega.{arith}
 use lib.Arith.{digits-lt}
 use lib.ListN.{length}
@@ -36,43 +36,37 @@ module _ {A : Type 0} (o : A) (T : Transform A) (W w h : ℕ) (l a b : List A) w
   cols-none = record { count = omega arith; same-l = refl; same-a = refl; same-b = refl; passed = pass-none T h (turned (picture o W l)) }
 
 module _ {A : Type 0} {o : A} {T : Transform A} {W w h y : ℕ} {l₀ a₀ b₀ l a b : List A} (local : Local T) (even : w % 2 ≡ 0) (wide : w ≤ W) (p : RowsPassed o T W w h y l₀ a₀ b₀ l a b) where
-  pub rows-more : {l′ a′ b′ : List A} → y < h → Lines T o (y * W) 1 (2 * (w / 2)) 1 l l′ → length a′ ≡ length a → length b′ ≡ length b
+  pub rows-more : {l′ a′ b′ : List A} → y < h → Lines T o (y * W) 1 w 1 l l′ → length a′ ≡ length a → length b′ ≡ length b
       → RowsPassed o T W w h (y + 1) l₀ a₀ b₀ l′ a′ b′
-  rows-more {l′} lt f q r =
-      let e : 2 * (w / 2) ≡ w = omega arith in
-      let g : Lines T o (y * W) 1 w 1 l l′ = subst (λ (n : ℕ). Lines T o (y * W) 1 n 1 l l′) e f in
-      record {
-        count = omega arith;
-        same-l = f .size ∙ p .same-l;
-        same-a = q ∙ p .same-a;
-        same-b = r ∙ p .same-b;
-        passed = row-more o W T local l l′ w y (picture o W l₀) even wide g (p .passed);
-      }
+  rows-more {l′} lt f q r = record {
+    count = omega arith;
+    same-l = f .size ∙ p .same-l;
+    same-a = q ∙ p .same-a;
+    same-b = r ∙ p .same-b;
+    passed = row-more o W T local l l′ w y (picture o W l₀) even wide f (p .passed);
+  }
 
 module _ {A : Type 0} {o : A} {T : Transform A} {W w h x : ℕ} {l₀ a₀ b₀ l a b : List A} (local : Local T) (even : h % 2 ≡ 0) (wide : w ≤ W) (p : ColsPassed o T W w h x l₀ a₀ b₀ l a b) where
-  pub cols-more : {l′ a′ b′ : List A} (c : ℕ) → x + c ≤ w → Lines T o x W (2 * (h / 2)) c l l′ → length a′ ≡ length a → length b′ ≡ length b
+  pub cols-more : {l′ a′ b′ : List A} (c : ℕ) → x + c ≤ w → Lines T o x W h c l l′ → length a′ ≡ length a → length b′ ≡ length b
       → ColsPassed o T W w h (x + c) l₀ a₀ b₀ l′ a′ b′
-  cols-more {l′} c le f q r =
-      let e : 2 * (h / 2) ≡ h = omega arith in
-      let g : Lines T o x W h c l l′ = subst (λ (n : ℕ). Lines T o x W n c l l′) e f in
-      record {
-        count = le;
-        same-l = f .size ∙ p .same-l;
-        same-a = q ∙ p .same-a;
-        same-b = r ∙ p .same-b;
-        passed = col-more o W T local l l′ h x c (turned (picture o W l₀)) even (omega arith) g (p .passed);
-      }
+  cols-more {l′} c le f q r = record {
+    count = le;
+    same-l = f .size ∙ p .same-l;
+    same-a = q ∙ p .same-a;
+    same-b = r ∙ p .same-b;
+    passed = col-more o W T local l l′ h x c (turned (picture o W l₀)) even (omega arith) f (p .passed);
+  }
 
 -- ---- a row, and a strip of columns, of an area are in its buffer
 module _ {A : Type 0} (l : List A) (W w h : ℕ) (wide : w ≤ W) (fits : h * W ≤ length l) where
-  pub row-places : (y : ℕ) → y < h → InBuffer l (y * W) 1 (2 * (w / 2)) 1
+  pub row-places : (y : ℕ) → y < h → InBuffer l (y * W) 1 w 1
   row-places y p = record {
     some = omega arith;
     apart = omega arith;
     place = λ n j i r. omega (arith, digits-lt {q = y} {m = h} {r = n} {c = W} p (omega arith));
   }
 
-  pub col-places : (x c : ℕ) → 0 < c → x + c ≤ w → InBuffer l x W (2 * (h / 2)) c
+  pub col-places : (x c : ℕ) → 0 < c → x + c ≤ w → InBuffer l x W h c
   col-places x c some le = record {
     some = some;
     apart = omega arith;

@@ -27,12 +27,14 @@ use Rattle.lifting.proofs.Rows.{row-place, row-in, line-in, run-place, 
 -- ---- which runs of rows are straight
 pub straight-one : (s : Step) (M n : ℕ) → Straight s M n 1
 straight-one s M n = record {
+  here = λ i h. let e : n + i ≡ n = omega arith in rw e (omega arith);
   before = λ i d h p. let e : n + i ≡ n = omega arith in rw e (omega arith);
   after = λ i d h p. let e : n + i + d ≡ n + d = omega arith in rw e (omega arith);
 }
 
 pub straight-between : (s : Step) (M n r : ℕ) → lookBack s ≤ n → n + r + lookAhead s ≤ M → Straight s M n r
 straight-between s M n r low high = record {
+  here = λ i h. omega (arith, inside-here M (n + i) 0 (omega arith) (omega arith), inside-here M n 0 (omega arith) (omega arith));
   before = λ i d h p. omega (arith, inside-here M (n + i) d (omega arith) (omega arith), inside-here M n d (omega arith) (omega arith));
   after = λ i d h p. omega (arith, inside-here M (n + i + d) 0 (omega arith) (omega arith), inside-here M (n + d) 0 (omega arith) (omega arith));
 }
@@ -44,18 +46,22 @@ look-two High = omega arith
 look-two Low = omega arith
 
 -- the taps, from what their computation gives
-pub taps-same : (s : Step) (M u v t n : ℕ) {at here before2 before after after2 back ahead one-back one-ahead : ℕ} → n < M
+pub taps-same : (s : Step) (M u v t n : ℕ) {at here before2 before after after2 back ahead one-back one-ahead : ℕ}
     → back ≡ lookBack s → ahead ≡ lookAhead s → one-back ≡ min 1 back → one-ahead ≡ min 1 ahead
-    → at ≡ u + inside M n 0 * t → here ≡ v + inside M n 0 * t → before2 ≡ v + inside M n back * t → before ≡ v + inside M n one-back * t
+    → at ≡ u + n * t → here ≡ v + inside M n 0 * t → before2 ≡ v + inside M n back * t → before ≡ v + inside M n one-back * t
     → after ≡ v + inside M (n + one-ahead) 0 * t → after2 ≡ v + inside M (n + ahead) 0 * t
     → record { at = at; here = here; before2 = before2; before = before; after = after; after2 = after2 } ≡ tapsOf s M u v t n
-taps-same s M u v t n lt b a ob oa p q r w x y =
-    let e : inside M n 0 ≡ n = omega (arith, inside-here M n 0 (omega arith) (omega arith)) in rw (p, q, r, w, x, y, ob, oa, b, a, e)
+taps-same s M u v t n b a ob oa p q r w x y = rw (p, q, r, w, x, y, ob, oa, b, a)
 
 -- ---- what a run computes
 module _ {s : Step} {M n r t c : ℕ} (x : EndToEnd t c r) (st : Straight s M n r) (l : List ℤ) (i j : ℕ) (h : i < r) where
   cell-here : (u : ℕ) → cell l (u + (n + i) * t + j) ≡ cell l (u + n * t + (i * c + j))
   cell-here u = ap (cell l) (row-place u t c n i j (x .follow i h))
+
+  -- where the other part has a row n + i
+  cell-level : n + r ≤ M → (v : ℕ) → cell l (v + (n + i) * t + j) ≡ cell l (v + inside M n 0 * t + (i * c + j))
+  cell-level top v = ap (λ (q : ℕ). cell l (v + q * t + j)) (sym (omega (arith, inside-here M (n + i) 0 (omega arith) (omega arith), st .here i h)))
+      ∙ ap (λ (q : ℕ). cell l (v + q * t + j)) (st .here i h) ∙ ap (cell l) (row-place v t c (inside M n 0) i j (x .follow i h))
 
   module _ (v d : ℕ) where
     cell-before : d ≤ lookBack s → cell l (v + inside M (n + i) d * t + j) ≡ cell l (v + inside M n d * t + (i * c + j))
@@ -64,17 +70,20 @@ module _ {s : Step} {M n r t c : ℕ} (x : EndToEnd t c r) (st : Straight s M n 
     cell-after : d ≤ lookAhead s → cell l (v + inside M (n + i + d) 0 * t + j) ≡ cell l (v + inside M (n + d) 0 * t + (i * c + j))
     cell-after p = ap (λ (q : ℕ). cell l (v + q * t + j)) (st .after i d h p) ∙ ap (cell l) (row-place v t c (inside M (n + d) 0) i j (x .follow i h))
 
-amount-row : (s : Step) (M n r t c u v : ℕ) → EndToEnd t c r → Straight s M n r → (l : List ℤ) (i j : ℕ) → i < r
+amount-row : (s : Step) (M n r t c u v : ℕ) → EndToEnd t c r → Straight s M n r → n + r ≤ M → (l : List ℤ) (i j : ℕ) → i < r
     → amountAt s l (tapsOf s M u v t n) (i * c + j) ≡ amount s M (lane v t l j) (n + i)
 unfolding predict update
-amount-row SPlusP M n r t c u v x st l i j h = sym (ap₂ slopeA (cell-before x st l i j h v 1 (omega arith)) (cell-after x st l i j h v 1 (omega arith)))
-amount-row TT M n r t c u v x st l i j h =
+amount-row SPlusP M n r t c u v x st top l i j h = sym (ap₂ slopeA (cell-before x st l i j h v 1 (omega arith)) (cell-after x st l i j h v 1 (omega arith)))
+amount-row TT M n r t c u v x st top l i j h =
     rw (cell-before x st l i j h v 2 (omega arith), cell-before x st l i j h v 1 (omega arith), cell-after x st l i j h v 1 (omega arith), cell-after x st l i j h v 2 (omega arith))
-amount-row High M n r t c u v x st l i j h = sym (ap₂ between (cell-here x st l i j h v) (cell-after x st l i j h v 1 (omega arith)))
-amount-row Low M n r t c u v x st l i j h = sym (ap₂ smoothing (cell-before x st l i j h v 1 (omega arith)) (cell-here x st l i j h v))
+amount-row High M n r t c u v x st top l i j h = sym (ap₂ between (cell-level x st l i j h top v) (cell-after x st l i j h v 1 (omega arith)))
+amount-row Low M n r t c u v x st top l i j h = sym (ap₂ smoothing (cell-before x st l i j h v 1 (omega arith)) (cell-level x st l i j h top v))
 
 -- ---- the rows around a straight run are rows of the part
 module _ {s : Step} {M n r : ℕ} (st : Straight s M n r) (some : 0 < r) (top : n + r ≤ M) (d : ℕ) where
+  here-rows : inside M n 0 + r ≤ M
+  here-rows = omega (arith, st .here (r - 1) (omega arith), inside-in M (n + (r - 1)) 0 (omega arith))
+
   before-rows : d ≤ lookBack s → inside M n d + r ≤ M
   before-rows p = omega (arith, st .before (r - 1) d (omega arith) p, inside-in M (n + (r - 1)) d (omega arith))
 
@@ -82,33 +91,33 @@ module _ {s : Step} {M n r : ℕ} (st : Straight s M n r) (some : 0 < r) (top : 
   after-rows p = omega (arith, st .after (r - 1) d (omega arith) p, inside-in M (n + (r - 1) + d) 0 (omega arith))
 
 -- two runs of rows, one of each part, are apart
-pub runs-apart : {u v t M c size : ℕ} (n q r : ℕ) → Parts u v t M c size → EndToEnd t c r → n + r ≤ M → q + r ≤ M → Apart (u + n * t) (v + q * t) (r * c)
-runs-apart {u} {v} {t} {M} {c} n q r g x p p′ i k h h′ e =
+pub runs-apart : {u v t M N c size : ℕ} (n q r : ℕ) → Parts u v t M N c size → EndToEnd t c r → n + r ≤ M → q + r ≤ N → Apart (u + n * t) (v + q * t) (r * c)
+runs-apart {u} {v} {t} {M} {N} {c} n q r g x p p′ i k h h′ e =
     g .apart (n + i / c) (i % c) (q + k / c) (k % c) (omega (arith, row-in x u n i h)) (line-in x u n i h) (omega (arith, row-in x v q k h′)) (line-in x v q k h′)
     (sym (run-place x u n i h) ∙ e ∙ run-place x v q k h′)
 
-module _ (s : Step) (M n r c u v t : ℕ) (l : List ℤ) (p : Taps) (e : p ≡ tapsOf s M u v t n) (x : EndToEnd t c r) (st : Straight s M n r) where
-  module _ (some : 0 < r) (top : n + r ≤ M) where
-    pub run-room : Parts u v t M c (length l) → Room p (r * c) l
+module _ (s : Step) (M n r c u v t : ℕ) (l : List ℤ) (p : Taps) (e : p ≡ tapsOf s M u v t n) (x : EndToEnd t c r) (st : Straight s M n r) (top : n + r ≤ M) where
+  module _ (some : 0 < r) where
+    pub run-room : Parts u v t (n + r) M c (length l) → Room p (r * c) l
     run-room g =
-        let b2 = before-rows st some top (lookBack s) (omega arith) in let b = before-rows st some top (min 1 (lookBack s)) (omega arith) in
+        let h = here-rows st some top 0 in let b2 = before-rows st some top (lookBack s) (omega arith) in let b = before-rows st some top (min 1 (lookBack s)) (omega arith) in
         let a = after-rows st some top (min 1 (lookAhead s)) (omega arith) in let a2 = after-rows st some top (lookAhead s) (omega arith) in rw e (record {
-          target = run-inside n r (g .first) x some (g .lines) top;
-          here = run-inside n r (g .second) x some (g .lines) top;
+          target = run-inside n r (g .first) x some (g .lines) (omega arith);
+          here = run-inside _ r (g .second) x some (g .lines) h;
           before2 = run-inside _ r (g .second) x some (g .lines) b2;
           before = run-inside _ r (g .second) x some (g .lines) b;
           after = run-inside _ r (g .second) x some (g .lines) a;
           after2 = run-inside _ r (g .second) x some (g .lines) a2;
-          here-apart = runs-apart n n r g x top top;
-          before2-apart = runs-apart n _ r g x top b2;
-          before-apart = runs-apart n _ r g x top b;
-          after-apart = runs-apart n _ r g x top a;
-          after2-apart = runs-apart n _ r g x top a2;
+          here-apart = runs-apart n _ r g x (omega arith) h;
+          before2-apart = runs-apart n _ r g x (omega arith) b2;
+          before-apart = runs-apart n _ r g x (omega arith) b;
+          after-apart = runs-apart n _ r g x (omega arith) a;
+          after2-apart = runs-apart n _ r g x (omega arith) a2;
         })
 
     pub run-near : Bounded (tapBound s) v t M c l → Near s l p (r * c)
     run-near g = rw e (record {
-      here = run-bounded n g x top;
+      here = run-bounded _ g x (here-rows st some top 0);
       before2 = run-bounded _ g x (before-rows st some top (lookBack s) (omega arith));
       before = run-bounded _ g x (before-rows st some top (min 1 (lookBack s)) (omega arith));
       after = run-bounded _ g x (after-rows st some top (min 1 (lookAhead s)) (omega arith));
@@ -116,7 +125,7 @@ module _ (s : Step) (M n r c u v t : ℕ) (l : List ℤ) (p : Taps) (e : p ≡ t
     })
 
   moved-row : (add : Bool) (i j : ℕ) → i < r → movedAt s add l p (i * c + j) ≡ movedRow s add M u v t l (n + i) j
-  moved-row add i j h = rw e (ap₂ (moved add) (sym (cell-here x st l i j h u)) (amount-row s M n r t c u v x st l i j h))
+  moved-row add i j h = rw e (ap₂ (moved add) (sym (cell-here x st l i j h u)) (amount-row s M n r t c u v x st top l i j h))
 
   pub run-stays : (add : Bool) → Fit s add M c n (n + r) u v t l → Stays s add l p (r * c)
   run-stays add f = record {
@@ -136,8 +145,8 @@ amount-local High M n L L′ h a = predict-reach kernel.FiveThree M n L L′ h (
 amount-local Low M n L L′ h a = update-local M n L L′ h a
 
 -- ---- some rows moved, and then more: those are moved from what they were
-module _ {s : Step} {add : Bool} {M c d e u v t : ℕ} {l l′ : List ℤ} (g : Parts u v t M c (length l)) (top : e ≤ M) (f : Lifted s add M c d e u v t l l′) where
-  pub parts-more : Parts u v t M c (length l′)
+module _ {s : Step} {add : Bool} {m M c d e u v t : ℕ} {l l′ : List ℤ} (g : Parts u v t m M c (length l)) (top : e ≤ m) (f : Lifted s add M c d e u v t l l′) where
+  pub parts-more : Parts u v t m M c (length l′)
   parts-more = parts-as g (f .rows .size)
 
   pub bounded-other : {r : ℕ} → Bounded r v t M c l → Bounded r v t M c l′

@@ -55,10 +55,9 @@ run-inside {a} {t} {m} {c} {size} n r i x some lines le =
     omega (arith, row-place a t c n k (c - 1) (x .follow k (omega arith)), i .place (n + k) (c - 1) (omega arith) (omega arith), s)
 
 -- ---- two parts, the other way round, and in a buffer as long
-pub parts-swap : {a b t m c size : ℕ} → Parts a b t m c size → Parts b a t m c size
+pub parts-swap : {a b t p q c size : ℕ} → Parts a b t p q c size → Parts b a t q p c size
 parts-swap p = record {
-  some = p .some;
-  few = p .few;
+  few = (p .few .1, p .few .0);
   lines = p .lines;
   wide = p .wide;
   first = p .second;
@@ -66,8 +65,19 @@ parts-swap p = record {
   apart = λ n j n′ j′ h k h′ k′ e. p .apart n′ j′ n j h′ k′ h k (sym e);
 }
 
-pub parts-as : {a b t m c size size′ : ℕ} → Parts a b t m c size → size′ ≡ size → Parts a b t m c size′
+pub parts-as : {a b t p q c size size′ : ℕ} → Parts a b t p q c size → size′ ≡ size → Parts a b t p q c size′
 parts-as p e = rw e p
+
+-- fewer rows of them
+pub parts-fewer : {a b t p q c size : ℕ} (p′ q′ : ℕ) → Parts a b t p q c size → p′ ≤ p → q′ ≤ q → Parts a b t p′ q′ c size
+parts-fewer p′ q′ g x y = record {
+  few = (omega (arith, g .few), omega (arith, g .few));
+  lines = g .lines;
+  wide = g .wide;
+  first = record { place = λ n j h k. g .first .place n j (omega arith) k };
+  second = record { place = λ n j h k. g .second .place n j (omega arith) k };
+  apart = λ n j n′ j′ h k h′ k′ e. g .apart n j n′ j′ (omega arith) k (omega arith) k′ e;
+}
 
 pub in-one : {a t m c size : ℕ} → In a t m c size → 0 < c → In a t m 1 size
 in-one i lines = record { place = λ n j h k. i .place n j h (omega arith) }
@@ -111,12 +121,15 @@ pub rows-old : {F : ℕ → ℕ → ℤ} {l l′ : List ℤ} (a t c d e : ℕ) �
 rows-old a t c d e wide p n j ge h = p .off (a + n * t + j) (λ n′ j′ u v h′ s. omega (arith, same-row a t c n j n′ j′ wide h h′ s))
 
 -- and so is the other part
-pub rows-other : {F : ℕ → ℕ → ℤ} {a b t m c size : ℕ} {l l′ : List ℤ} (d e : ℕ) → Parts a b t m c size → e ≤ m → Rows F a t c d e l l′ → (n j : ℕ) → n < m → j < c → lane b t l′ j n ≡ lane b t l j n
+pub rows-other : {F : ℕ → ℕ → ℤ} {a b t m r c size : ℕ} {l l′ : List ℤ} (d e : ℕ) → Parts a b t m r c size → e ≤ m → Rows F a t c d e l l′ → (n j : ℕ) → n < r → j < c → lane b t l′ j n ≡ lane b t l j n
 rows-other {F} {a} {b} {t} d e g le p n j h k = p .off (b + n * t + j) (λ n′ j′ u v h′ s. g .apart n′ j′ n j (omega arith) h′ h k (sym s))
 
 -- ---- bounds
 pub bounded-more : {r q a t m c : ℕ} {l : List ℤ} → Bounded r a t m c l → r ≤ q → Bounded q a t m c l
 bounded-more p h = record { each = λ j k n i. within-more (p .each j k n i) h }
+
+pub bounded-fewer : {r a t m c : ℕ} {l : List ℤ} (m′ : ℕ) → Bounded r a t m c l → m′ ≤ m → Bounded r a t m′ c l
+bounded-fewer m′ p h = record { each = λ j k n i. p .each j k n (omega arith) }
 
 pub bounded-as : {r a t m c : ℕ} {l l′ : List ℤ} → Bounded r a t m c l → ((n j : ℕ) → n < m → j < c → lane a t l′ j n ≡ lane a t l j n) → Bounded r a t m c l′
 bounded-as p e = record { each = λ j k n i. rw (e n j i k) (p .each j k n i) }

@@ -1,6 +1,6 @@
 -- The laws of stages: what one stage of a kernel makes of the parts of each line, one after the other; and that every number fits 32 bits.
 --
---   Local M F == F's first M numbers are computed from the first M of its lines
+--   Local r p q F == F's first r numbers are computed from the first p of the first part and the first q of the second
 --
 -- Assumes nothing.
 use mathlib.Core.Path.{_≡_, refl, sym, ap, ap₂, _∙_}
@@ -36,64 +36,63 @@ use Rattle.lifting.specs.Lines.{pairFirst, pairSecond, firsts, seconds, 
 use Rattle.lifting.proofs.Rows.{row-place, row-in, line-in, run-place, same-row, parts-swap, parts-as, rows-other}
 use Rattle.lifting.proofs.Lifts.{amount-local}
 
-abbrev pub Local : ℕ → (Line ℤ → Line ℤ → Line ℤ) → Type 0
-Local M F = (A A′ B B′ : Line ℤ) → Agree M A A′ → Agree M B B′ → Agree M (F A B) (F A′ B′)
+abbrev pub Local : ℕ → ℕ → ℕ → (Line ℤ → Line ℤ → Line ℤ) → Type 0
+Local r p q F = (A A′ B B′ : Line ℤ) → Agree p A A′ → Agree q B B′ → Agree r (F A B) (F A′ B′)
 
 -- ---- a stage, and the next
-module _ {a b t c m : ℕ} where
-  pub both-then : {F G F′ G′ : Line ℤ → Line ℤ → Line ℤ} {l l′ l″ : List ℤ} → Local m F′ → Local m G′ → Both F G a b t c 0 m l l′ → Both F′ G′ a b t c 0 m l′ l″
-      → Both (λ A B. F′ (F A B) (G A B)) (λ A B. G′ (F A B) (G A B)) a b t c 0 m l l″
-  both-then p q f g = record {
+module _ {a b t c p q : ℕ} where
+  pub both-then : {F G F′ G′ : Line ℤ → Line ℤ → Line ℤ} {l l′ l″ : List ℤ} → Local p p q F′ → Local q p q G′ → Both F G a b t c 0 p q l l′ → Both F′ G′ a b t c 0 p q l′ l″
+      → Both (λ A B. F′ (F A B) (G A B)) (λ A B. G′ (F A B) (G A B)) a b t c 0 p q l l″
+  both-then x y f g = record {
     size = g .size ∙ f .size;
-    first = λ n j o h k. g .first n j o h k ∙ p _ _ _ _ (λ i lt. f .first i j (omega arith) lt k) (λ i lt. f .second i j (omega arith) lt k) n h;
-    second = λ n j o h k. g .second n j o h k ∙ q _ _ _ _ (λ i lt. f .first i j (omega arith) lt k) (λ i lt. f .second i j (omega arith) lt k) n h;
-    off = λ i x y. g .off i x y ∙ f .off i x y;
+    first = λ n j o h k. g .first n j o h k ∙ x _ _ _ _ (λ i lt. f .first i j (omega arith) lt k) (λ i lt. f .second i j (omega arith) lt k) n h;
+    second = λ n j o h k. g .second n j o h k ∙ y _ _ _ _ (λ i lt. f .first i j (omega arith) lt k) (λ i lt. f .second i j (omega arith) lt k) n h;
+    off = λ i u v. g .off i u v ∙ f .off i u v;
   }
 
-  pub both-as : {F G F′ G′ : Line ℤ → Line ℤ → Line ℤ} {l l′ : List ℤ} → ((A B : Line ℤ) → Agree m (F A B) (F′ A B)) → ((A B : Line ℤ) → Agree m (G A B) (G′ A B))
-      → Both F G a b t c 0 m l l′ → Both F′ G′ a b t c 0 m l l′
-  both-as p q f = record {
+  pub both-as : {F G F′ G′ : Line ℤ → Line ℤ → Line ℤ} {l l′ : List ℤ} → ((A B : Line ℤ) → Agree p (F A B) (F′ A B)) → ((A B : Line ℤ) → Agree q (G A B) (G′ A B))
+      → Both F G a b t c 0 p q l l′ → Both F′ G′ a b t c 0 p q l l′
+  both-as x y f = record {
     size = f .size;
-    first = λ n j o h k. f .first n j o h k ∙ p _ _ n h;
-    second = λ n j o h k. f .second n j o h k ∙ q _ _ n h;
+    first = λ n j o h k. f .first n j o h k ∙ x _ _ n h;
+    second = λ n j o h k. f .second n j o h k ∙ y _ _ n h;
     off = f .off;
   }
 
   -- a step on the rows d up to e of the second part, and of the first
-  module _ {s : Step} {add : Bool} {l l′ : List ℤ} (d e : ℕ) (le : e ≤ m) (g : Parts a b t m c (length l)) where
-    pub rows-second : Lifted s add m c d e b a t l l′ → Both (λ A B. A) (λ A B n. moved add (B n) (amount s m A n)) a b t c d e l l′
-    rows-second f = record {
-      size = f .rows .size;
-      first = λ n j o h k. rows-other d e (parts-swap g) le (f .rows) n j (omega arith) k;
-      second = f .rows .on;
-      off = λ i x y. f .rows .off i y;
+  module _ {s : Step} {add : Bool} {M : ℕ} {l l′ : List ℤ} (d e f : ℕ) (pe : e ≤ p) (qf : f ≤ q) (g : Parts a b t p q c (length l)) where
+    pub rows-second : Lifted s add M c d f b a t l l′ → Both (λ A B. A) (λ A B n. moved add (B n) (amount s M A n)) a b t c d e f l l′
+    rows-second x = record {
+      size = x .rows .size;
+      first = λ n j o h k. rows-other d f (parts-swap g) qf (x .rows) n j (omega arith) k;
+      second = x .rows .on;
+      off = λ i u v. x .rows .off i v;
     }
 
-    pub rows-first : Lifted s add m c d e a b t l l′ → Both (λ A B n. moved add (A n) (amount s m B n)) (λ A B. B) a b t c d e l l′
-    rows-first f = record {
-      size = f .rows .size;
-      first = f .rows .on;
-      second = λ n j o h k. rows-other d e g le (f .rows) n j (omega arith) k;
-      off = λ i x y. f .rows .off i x;
+    pub rows-first : Lifted s add M c d e a b t l l′ → Both (λ A B n. moved add (A n) (amount s M B n)) (λ A B. B) a b t c d e f l l′
+    rows-first x = record {
+      size = x .rows .size;
+      first = x .rows .on;
+      second = λ n j o h k. rows-other d e g pe (x .rows) n j (omega arith) k;
+      off = λ i u v. x .rows .off i u;
     }
 
   -- and on all rows
-  pub step-second : {s : Step} {add : Bool} {l l′ : List ℤ} → Parts a b t m c (length l) → Lifted s add m c 0 m b a t l l′
-      → Both (λ A B. A) (λ A B n. moved add (B n) (amount s m A n)) a b t c 0 m l l′
-  step-second g f = rows-second 0 m (omega arith) g f
+  module _ {s : Step} {add : Bool} {M : ℕ} {l l′ : List ℤ} (g : Parts a b t p q c (length l)) where
+    pub step-second : Lifted s add M c 0 q b a t l l′ → Both (λ A B. A) (λ A B n. moved add (B n) (amount s M A n)) a b t c 0 p q l l′
+    step-second x = rows-second 0 p q (omega arith) (omega arith) g x
 
-  pub step-first : {s : Step} {add : Bool} {l l′ : List ℤ} → Parts a b t m c (length l) → Lifted s add m c 0 m a b t l l′
-      → Both (λ A B n. moved add (A n) (amount s m B n)) (λ A B. B) a b t c 0 m l l′
-  step-first g f = rows-first 0 m (omega arith) g f
+    pub step-first : Lifted s add M c 0 p a b t l l′ → Both (λ A B n. moved add (A n) (amount s M B n)) (λ A B. B) a b t c 0 p q l l′
+    step-first x = rows-first 0 p q (omega arith) (omega arith) g x
 
-pub both-none : (a b t c d e : ℕ) (l : List ℤ) → Both (λ A B. A) (λ A B. B) a b t c d e l l
-both-none a b t c d e l = record { size = refl; first = λ n j o h k. refl; second = λ n j o h k. refl; off = λ i x y. refl }
+pub both-none : (a b t c d p q : ℕ) (l : List ℤ) → Both (λ A B. A) (λ A B. B) a b t c d p q l l
+both-none a b t c d p q l = record { size = refl; first = λ n j o h k. refl; second = λ n j o h k. refl; off = λ i x y. refl }
 
 -- ---- pairs, as a run of rows and row after row
 module _ (join : Bool) {a b t c : ℕ} {l l′ : List ℤ} where
   pub pair-run : (n r : ℕ) → EndToEnd t c r
       → Pairs (λ k. pairFirst join (cell l (a + n * t + k)) (cell l (b + n * t + k))) (λ k. pairSecond join (cell l (a + n * t + k)) (cell l (b + n * t + k))) (a + n * t) (b + n * t) (r * c) l l′
-      → Both (firsts join) (seconds join) a b t c n (n + r) l l′
+      → Both (firsts join) (seconds join) a b t c n (n + r) (n + r) l l′
   pair-run n r x p = record {
     size = p .size;
     first = λ m j q h k. let i = m - n in let d : n + i ≡ m = omega arith in let g = x .follow i (omega arith) in
@@ -116,10 +115,10 @@ pub pairs-able : (join : Bool) {a b t c r : ℕ} {l : List ℤ} (n : ℕ) → En
 pairs-able join {a} {b} {t} {c} n x p k h =
     rw (run-place x a n k h, run-place x b n k h) (p .each (n + k / c) (k % c) (omega arith) (omega (arith, row-in x a n k h)) (line-in x a n k h))
 
-pub pair-none : (join : Bool) (a b t c d : ℕ) (l : List ℤ) → Both (firsts join) (seconds join) a b t c d d l l
+pub pair-none : (join : Bool) (a b t c d : ℕ) (l : List ℤ) → Both (firsts join) (seconds join) a b t c d d d l l
 pair-none join a b t c d l = record { size = refl; first = λ n j p q h. absurd (omega arith); second = λ n j p q h. absurd (omega arith); off = λ i x y. refl }
 
-module _ (join : Bool) {a b t m c d e : ℕ} {l l′ : List ℤ} (g : Parts a b t m c (length l)) (top : e ≤ m) (f : Both (firsts join) (seconds join) a b t c d e l l′) where
+module _ (join : Bool) {a b t m c d e : ℕ} {l l′ : List ℤ} (g : Parts a b t m m c (length l)) (top : e ≤ m) (f : Both (firsts join) (seconds join) a b t c d e e l l′) where
   first-old : (n j : ℕ) → e ≤ n → n < m → j < c → lane a t l′ j n ≡ lane a t l j n
   first-old n j ge h k = f .off (a + n * t + j)
       (λ n′ j′ p q r s. omega (arith, same-row a t c n j n′ j′ (g .wide) k r s)) (λ n′ j′ p q r s. g .apart n j n′ j′ h k (omega arith) r s)
@@ -131,7 +130,7 @@ module _ (join : Bool) {a b t m c d e : ℕ} {l l′ : List ℤ} (g : Parts a b 
   pub pairable-more : (u v : ℕ) → e ≤ u → v ≤ m → Pairable join a b t c u v l → Pairable join a b t c u v l′
   pairable-more u v ge le p = record { each = λ n j q h k. rw (first-old n j (omega arith) (omega arith) k, second-old n j (omega arith) (omega arith) k) (p .each n j q h k) }
 
-  pub pair-join : (v : ℕ) {l″ : List ℤ} → d ≤ e → e ≤ v → v ≤ m → Both (firsts join) (seconds join) a b t c e v l′ l″ → Both (firsts join) (seconds join) a b t c d v l l″
+  pub pair-join : (v : ℕ) {l″ : List ℤ} → d ≤ e → e ≤ v → v ≤ m → Both (firsts join) (seconds join) a b t c e v v l′ l″ → Both (firsts join) (seconds join) a b t c d v v l l″
   pair-join v de ev le p = record {
     size = p .size ∙ f .size;
     first = λ n j u h k. by-lt n e
@@ -165,14 +164,14 @@ moved-within true a b t p v w = add-within a b t p v w
 moved-within false a b t p v w = sub-within a b t p v w
 
 -- a step on a part within p, from a part within q
-module _ (s : Step) (add : Bool) {M c u v t p q : ℕ} {l : List ℤ} (x : Bounded p u t M c l) (y : Bounded q v t M c l) where
-  pub moved-bound : (j : ℕ) → j < c → AllWithin (p + (q + 1)) M (λ n. movedRow s add M u v t l n j)
-  moved-bound j k n h = moved-within add p (q + 1) _ _ (x .each j k n h) (amount-within s M q (lane v t l j) (y .each j k) n h)
+module _ (s : Step) (add : Bool) {m M c u v t p q : ℕ} {l : List ℤ} (le : m ≤ M) (x : Bounded p u t m c l) (y : Bounded q v t M c l) where
+  pub moved-bound : (j : ℕ) → j < c → AllWithin (p + (q + 1)) m (λ n. movedRow s add M u v t l n j)
+  moved-bound j k n h = moved-within add p (q + 1) _ _ (x .each j k n h) (amount-within s M q (lane v t l j) (y .each j k) n (omega arith))
 
-  pub lift-fit : T (ltb (p + (q + 1)) (2 ^ 31)) → Fit s add M c 0 M u v t l
+  pub lift-fit : T (ltb (p + (q + 1)) (2 ^ 31)) → Fit s add M c 0 m u v t l
   lift-fit fits = record { fits = λ n j o h k. within-fits w32 fits (moved-bound j k n h) }
 
-  pub lift-bounded : {l′ : List ℤ} → Lifted s add M c 0 M u v t l l′ → Bounded (p + (q + 1)) u t M c l′
+  pub lift-bounded : {l′ : List ℤ} → Lifted s add M c 0 m u v t l l′ → Bounded (p + (q + 1)) u t m c l′
   lift-bounded f = record { each = λ j k n h. rw (f .rows .on n j (omega arith) h k) (moved-bound j k n h) }
 
 -- on some rows of it
@@ -181,7 +180,7 @@ rows-fit s add {M} {v = v} {t = t} {p = p} {q = q} {l = l} le x y fits = record 
   fits = λ n j o h k. within-fits w32 fits (moved-within add p (q + 1) _ _ (x .each n j o h k) (amount-within s M q (lane v t l j) (y .each j k) n (omega arith)));
 }
 
-module _ {a b t m c r : ℕ} {l l′ : List ℤ} (x : Bounded r a t m c l) (y : Bounded r b t m c l) (f : Both (firsts false) (seconds false) a b t c 0 m l l′) where
+module _ {a b t m c r : ℕ} {l l′ : List ℤ} (x : Bounded r a t m c l) (y : Bounded r b t m c l) (f : Both (firsts false) (seconds false) a b t c 0 m m l l′) where
   pub means-bounded : Bounded r a t m c l′
   means-bounded = record { each = λ j k n h. rw (f .first n j (omega arith) h k) (mean-within r _ _ (x .each j k n h) (y .each j k n h)) }
 
@@ -196,17 +195,17 @@ module _ {a b t m c p q : ℕ} {l : List ℤ} (x : Bounded p a t m c l) (y : Bou
   join-able fits = record { each = λ n j o h r. (within-fits w32 fits (first-within p q _ _ (x .each j r n h) (y .each j r n h)), within-fits w32 fits (second-within p q _ _ (x .each j r n h) (y .each j r n h))) }
 
 -- ---- the stages are local
-pub first-local : {M : ℕ} → Local M (λ A B. A)
+pub first-local : {p q : ℕ} → Local p p q (λ A B. A)
 first-local A A′ B B′ x y = x
 
-pub second-local : {M : ℕ} → Local M (λ A B. B)
+pub second-local : {p q : ℕ} → Local q p q (λ A B. B)
 second-local A A′ B B′ x y = y
 
-pub moves-second-local : {M : ℕ} (s : Step) (add : Bool) → Local M (λ A B n. moved add (B n) (amount s M A n))
-moves-second-local {M} s add A A′ B B′ x y n h = ap₂ (moved add) (y n h) (amount-local s M n A A′ h x)
+pub moves-second-local : {p q : ℕ} (s : Step) (add : Bool) → q ≤ p → Local q p q (λ A B n. moved add (B n) (amount s p A n))
+moves-second-local {p} s add le A A′ B B′ x y n h = ap₂ (moved add) (y n h) (amount-local s p n A A′ (omega arith) x)
 
-pub moves-first-local : {M : ℕ} (s : Step) (add : Bool) → Local M (λ A B n. moved add (A n) (amount s M B n))
-moves-first-local {M} s add A A′ B B′ x y n h = ap₂ (moved add) (x n h) (amount-local s M n B B′ h y)
+pub moves-first-local : {p q : ℕ} (s : Step) (add : Bool) → p ≤ q → Local p p q (λ A B n. moved add (A n) (amount s q B n))
+moves-first-local {p} {q} s add le A A′ B B′ x y n h = ap₂ (moved add) (x n h) (amount-local s q n B B′ (omega arith) y)
 
 -- ---- kernel by kernel
 module _ (M : ℕ) (A B : Line ℤ) where
@@ -224,25 +223,25 @@ module _ (M : ℕ) (A B : Line ℤ) where
   high-of n h = ap₂ _-ℤ_ (sym (paired-odd A B n)) (predict-reach kernel.FiveThree M n A (evens (paired A B)) h (λ i lt p q. sym (paired-even A B i)))
 
 module _ {a b t c m : ℕ} {l l′ : List ℤ} where
-  pub forward-s : Both (firsts false) (seconds false) a b t c 0 m l l′ → Both (lowsOf kernel.S m) (highsOf kernel.S m) a b t c 0 m l l′
+  pub forward-s : Both (firsts false) (seconds false) a b t c 0 m m l l′ → Both (lowsOf kernel.S m) (highsOf kernel.S m) a b t c 0 m m l l′
   unfolding low high
   forward-s = both-as (λ A B n h. means-of m A B n) (λ A B n h. differences-of m A B n ∙ sym (sub-none m (means (paired A B)) n _))
 
-  pub forward-a : Both (firsts false) (predicted SPlusP m) a b t c 0 m l l′ → Both (lowsOf kernel.SPlusP m) (highsOf kernel.SPlusP m) a b t c 0 m l l′
+  pub forward-a : Both (firsts false) (predicted SPlusP m) a b t c 0 m m l l′ → Both (lowsOf kernel.SPlusP m) (highsOf kernel.SPlusP m) a b t c 0 m m l l′
   unfolding low high
   forward-a = both-as (λ A B n h. means-of m A B n) (λ A B n h. pair-high-of m A B kernel.SPlusP n h)
 
-  pub forward-tt : Both (firsts false) (predicted TT m) a b t c 0 m l l′ → Both (lowsOf kernel.TT m) (highsOf kernel.TT m) a b t c 0 m l l′
+  pub forward-tt : Both (firsts false) (predicted TT m) a b t c 0 m m l l′ → Both (lowsOf kernel.TT m) (highsOf kernel.TT m) a b t c 0 m m l l′
   unfolding low high
   forward-tt = both-as (λ A B n h. means-of m A B n) (λ A B n h. pair-high-of m A B kernel.TT n h)
 
-  module _ {l″ : List ℤ} (g : Parts a b t m c (length l)) where
-    pub forward-pairs : {s : Step} → Both (firsts false) (seconds false) a b t c 0 m l l′ → Lifted s false m c 0 m b a t l′ l″ → Both (firsts false) (predicted s m) a b t c 0 m l l″
-    forward-pairs {s} f h = both-then first-local (moves-second-local s false) f (step-second (parts-as g (f .size)) h)
+  module _ {l″ : List ℤ} (g : Parts a b t m m c (length l)) where
+    pub forward-pairs : {s : Step} → Both (firsts false) (seconds false) a b t c 0 m m l l′ → Lifted s false m c 0 m b a t l′ l″ → Both (firsts false) (predicted s m) a b t c 0 m m l l″
+    forward-pairs {s} f h = both-then first-local (moves-second-local s false (omega arith)) f (step-second (parts-as g (f .size)) h)
 
-    pub forward-five-three : Lifted High false m c 0 m b a t l l′ → Lifted Low true m c 0 m a b t l′ l″ → Both (lowsOf kernel.FiveThree m) (highsOf kernel.FiveThree m) a b t c 0 m l l″
+    pub forward-five-three : Lifted High false m c 0 m b a t l l′ → Lifted Low true m c 0 m a b t l′ l″ → Both (lowsOf kernel.FiveThree m) (highsOf kernel.FiveThree m) a b t c 0 m m l l″
     unfolding low
     forward-five-three f h = both-as
         (λ A B n k. ap₂ _+ℤ_ (sym (paired-even A B n)) (update-local m n _ (high kernel.FiveThree m (paired A B)) k (λ i lt. high-of m A B i lt)))
         (λ A B n k. high-of m A B n k)
-        (both-then (moves-first-local Low true) second-local (step-second g f) (step-first (parts-as g (f .rows .size)) h))
+        (both-then (moves-first-local Low true (omega arith)) second-local (step-second g f) (step-first (parts-as g (f .rows .size)) h))

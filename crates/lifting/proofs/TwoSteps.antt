@@ -79,7 +79,7 @@ module _ (a b t m c d e : ℕ) (l : List ℤ) (M n : ℕ) (A B : ℕ → Line �
   low-taken : ((j : ℕ) → j < c → Agree m (lane a t l j) (λ i. A j (n + i))) → Bounded (2 ^ 28) a t m c l × RowsWithin (2 ^ 24) b t c d e l
   low-taken h = (record { each = λ j k i q. rw (h j k i q) (lows j k (n + i) (omega arith)) }, record { each = λ r j o q k. rw (rows r j o q k .1) (highs j k (n + r) (omega arith)) })
 
-  pub begins : (k : Kernel) → ((j : ℕ) → j < c → Holds k n m (A j) (B j) (lane a t l j) (lane b t l j)) → Begins k a b t m c d e l
+  pub begins : (k : Kernel) → ((j : ℕ) → j < c → Holds k n m (A j) (B j) (lane a t l j) (lane b t l j)) → Begins k a b t m m c d e l
   begins kernel.S h = tt
   begins kernel.SPlusP h = low-taken h
   begins kernel.TT h = low-taken h
@@ -102,13 +102,13 @@ begun-there k M n v r A B A′ B′ h top back ahead holds x y = go k holds
     go kernel.TT c = (x, let p = before A A′ 2 (omega arith) c in let q = before A A′ 1 (omega arith) c in let s = after A A′ 1 (omega arith) c in let t = after A A′ 2 (omega arith) c in rw (y, p, q, s, t))
     go kernel.FiveThree c = (ap₂ _-ℤ_ x (ap₂ smoothing (before B B′ 1 (omega arith) c) (c r h)), y)
 
-pub ended-first-local : (k : Kernel) {M : ℕ} → Local M (endedFirst k)
+pub ended-first-local : (k : Kernel) {M : ℕ} → Local M M M (endedFirst k)
 ended-first-local kernel.S A A′ B B′ x y n h = ap₂ firstOf (x n h) (y n h)
 ended-first-local kernel.SPlusP A A′ B B′ x y n h = ap₂ firstOf (x n h) (y n h)
 ended-first-local kernel.TT A A′ B B′ x y n h = ap₂ firstOf (x n h) (y n h)
 ended-first-local kernel.FiveThree A A′ B B′ x y n h = x n h
 
-pub ended-second-local : (k : Kernel) {M : ℕ} → Local M (endedSecond k M)
+pub ended-second-local : (k : Kernel) {M : ℕ} → Local M M M (endedSecond k M)
 ended-second-local kernel.S A A′ B B′ x y n h = ap₂ secondOf (x n h) (y n h)
 ended-second-local kernel.SPlusP A A′ B B′ x y n h = ap₂ secondOf (x n h) (y n h)
 ended-second-local kernel.TT A A′ B B′ x y n h = ap₂ secondOf (x n h) (y n h)
@@ -128,7 +128,7 @@ module _ (M : ℕ) (A B : Line ℤ) (x : AllWithin (2 ^ 28) M A) (y : AllWithin 
   begun-second kernel.TT n h = within-more (add-within (2 ^ 24) _ _ _ (y n h) (predict-within kernel.TT M (2 ^ 28) A x n h)) (omega arith)
   begun-second kernel.FiveThree n h = within-more (y n h) (omega arith)
 
-module _ (k : Kernel) {a b t c m : ℕ} {l l′ : List ℤ} (f : Both (begunFirst k m) (begunSecond k m) a b t c 0 m l l′) where
+module _ (k : Kernel) {a b t c m : ℕ} {l l′ : List ℤ} (f : Both (begunFirst k m) (begunSecond k m) a b t c 0 m m l l′) where
   module _ (x : Bounded (2 ^ 28) a t m c l) (y : Bounded (2 ^ 24) b t m c l) where
     pub begun-lows : Bounded (2 ^ 29) a t m c l′
     begun-lows = record { each = λ j q n h. rw (f .first n j (omega arith) h q) (begun-first m _ _ (x .each j q) (y .each j q) k n h) }
@@ -136,5 +136,5 @@ module _ (k : Kernel) {a b t c m : ℕ} {l l′ : List ℤ} (f : Both (begunFirs
     pub begun-highs : Bounded (2 ^ 29) b t m c l′
     begun-highs = record { each = λ j q n h. rw (f .second n j (omega arith) h q) (begun-second m _ _ (x .each j q) (y .each j q) k n h) }
 
-  pub both-steps : {l″ : List ℤ} → Both (endedFirst k) (endedSecond k m) a b t c 0 m l′ l″ → Both (undoneEvens k m) (undoneOdds k m) a b t c 0 m l l″
+  pub both-steps : {l″ : List ℤ} → Both (endedFirst k) (endedSecond k m) a b t c 0 m m l′ l″ → Both (undoneEvens k m) (undoneOdds k m) a b t c 0 m m l l″
   both-steps g = both-as (ended-first k m) (ended-second k m) (both-then (ended-first-local k) (ended-second-local k) f g)

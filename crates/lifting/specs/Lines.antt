@@ -10,8 +10,8 @@
 --   again s M A B         == the highs B, with the amounts of step s from the lows A
 --   RowsWithin r .. d e l == the numbers of rows d up to e of a part are within r
 --   Begins k .. d e l     == what the first step of kernel k's way back takes, on rows d up to e: the part that it looks at, and those rows of the other
---   begunFirst k M A B    == the way back, its first step done: the first part, from the lows A and the highs B
---   begunSecond k M A B   == the second part
+--   begunFirst k K A B    == the way back, its first step done: the first part, from the lows A and the K highs B
+--   begunSecond k M A B   == the second part, from the M lows
 --   endedFirst k A B      == its last step: the evens, from the parts A and B that the first step leaves
 --   endedSecond k M A B   == the odds
 --   lowsOf k M A B        == kernel k's lows of the line with these evens and odds
@@ -65,17 +65,17 @@ again s M A B n = B n +ℤ amount s M A n
 pub record RowsWithin (r a t c d e : ℕ) (l : List ℤ) : Type 0 where
   pub each : (n j : ℕ) → d ≤ n → n < e → j < c → Within r (lane a t l j n)
 
-abbrev pub Begins : Kernel → ℕ → ℕ → ℕ → ℕ → ℕ → ℕ → ℕ → List ℤ → Type 0
-Begins S a b t m c d e l = Unit
-Begins SPlusP a b t m c d e l = Bounded (2 ^ 28) a t m c l × RowsWithin (2 ^ 24) b t c d e l
-Begins TT a b t m c d e l = Bounded (2 ^ 28) a t m c l × RowsWithin (2 ^ 24) b t c d e l
-Begins FiveThree a b t m c d e l = Bounded (2 ^ 24) b t m c l × RowsWithin (2 ^ 28) a t c d e l
+abbrev pub Begins : Kernel → ℕ → ℕ → ℕ → ℕ → ℕ → ℕ → ℕ → ℕ → List ℤ → Type 0
+Begins S a b t p q c d e l = Unit
+Begins SPlusP a b t p q c d e l = Bounded (2 ^ 28) a t p c l × RowsWithin (2 ^ 24) b t c d e l
+Begins TT a b t p q c d e l = Bounded (2 ^ 28) a t p c l × RowsWithin (2 ^ 24) b t c d e l
+Begins FiveThree a b t p q c d e l = Bounded (2 ^ 24) b t q c l × RowsWithin (2 ^ 28) a t c d e l
 
 abbrev pub begunFirst : Kernel → ℕ → Line ℤ → Line ℤ → Line ℤ
-begunFirst S M A B = A
-begunFirst SPlusP M A B = A
-begunFirst TT M A B = A
-begunFirst FiveThree M A B = λ n. A n -ℤ update M B n
+begunFirst S K A B = A
+begunFirst SPlusP K A B = A
+begunFirst TT K A B = A
+begunFirst FiveThree K A B = λ n. A n -ℤ update K B n
 
 abbrev pub begunSecond : Kernel → ℕ → Line ℤ → Line ℤ → Line ℤ
 begunSecond S M A B = B

@@ -1,4 +1,4 @@
--- Lifting steps on a part of c lines of M numbers, from the other part.
+-- Lifting steps on a part of c lines, from the M numbers of the other part of each.
 --
 --   amount s M x n        == what step s moves a number n by, from the line x
 --   lookBack s            == how many rows back step s looks
@@ -54,7 +54,7 @@ movedRow s add M u v t l n j = moved add (lane u t l j n) (amount s M (lane v t 
 abbrev pub tapsOf : Step → ℕ → ℕ → ℕ → ℕ → ℕ → Taps
 tapsOf s M u v t n = record {
   at = u + n * t;
-  here = v + n * t;
+  here = v + inside M n 0 * t;
   before2 = v + inside M n (lookBack s) * t;
   before = v + inside M n (min 1 (lookBack s)) * t;
   after = v + inside M (n + min 1 (lookAhead s)) 0 * t;
@@ -62,6 +62,7 @@ tapsOf s M u v t n = record {
 }
 
 pub record Straight (s : Step) (M n r : ℕ) : Type 0 where
+  pub here : (i : ℕ) → i < r → inside M (n + i) 0 ≡ inside M n 0 + i
   pub before : (i d : ℕ) → i < r → d ≤ lookBack s → inside M (n + i) d ≡ inside M n d + i
   pub after : (i d : ℕ) → i < r → d ≤ lookAhead s → inside M (n + i + d) 0 ≡ inside M (n + d) 0 + i
 

@@ -64,10 +64,10 @@ fn row_near(size: usize, part: usize, m: usize, u: usize, d: usize, step: usize)
     row_start(size, part, inside(m, u, d), step)
 }
 
-// Where row n of the part at `to` begins, and the rows of the part at `from` that it is moved from.
+// Where row n of the part at `to` begins, and those of the m rows of the part at `from` that it is moved from.
 fn taps(s: Step, size: usize, to: usize, from: usize, step: usize, m: usize, n: usize) -> Taps
-    requires { ⌜ (n < m) × (m < 2 ^ 32) ⌝ }
-    requires { ⌜ In to step m 1 size ⌝ }
+    requires { ⌜ (0 < m) × (n < 2 ^ 32) ⌝ }
+    requires { ⌜ to + n * step < size ⌝ }
     requires { ⌜ In from step m 1 size ⌝ }
     ensures { λ r. ⌜ r ≡ tapsOf s m to from step n ⌝ }
 {
@@ -76,7 +76,7 @@ fn taps(s: Step, size: usize, to: usize, from: usize, step: usize, m: usize, n: 
     let near_back = whole::least(1, back);
     let near_ahead = whole::least(1, ahead);
     Taps {
-        at: row_near(size, to, m, n, 0, step),
+        at: row_start(size, to, n, step),
         here: row_near(size, from, m, n, 0, step),
         before2: row_near(size, from, m, n, back, step),
         before: row_near(size, from, m, n, near_back, step),
@@ -85,7 +85,7 @@ fn taps(s: Step, size: usize, to: usize, from: usize, step: usize, m: usize, n: 
     }
 }
 
-// A lifting step on r rows of the part at `to` from row n on, which lie end to end, from the part at `from`.
+// A lifting step on r rows of the part at `to` from row n on, which lie end to end, from the m rows of the part at `from`.
 fn lift_rows(
     s: Step,
     l: &mut [i32],
@@ -99,7 +99,7 @@ fn lift_rows(
     add: bool,
 )
     requires { ⌜ (0 < r) × (n + r ≤ m) ⌝ }
-    requires { ⌜ Parts to from step m lanes (length (now l)) ⌝ }
+    requires { ⌜ Parts to from step (n + r) m lanes (length (now l)) ⌝ }
     requires { ⌜ EndToEnd step lanes r ⌝ }
     requires { ⌜ Straight s m n r ⌝ }
     requires { ⌜ Bounded (tapBound s) from step m lanes (now l) ⌝ }
@@ -124,7 +124,7 @@ fn lift_each(
     add: bool,
 )
     requires { ⌜ (a ≤ b) × (b ≤ m) ⌝ }
-    requires { ⌜ Parts to from step m lanes (length (now l)) ⌝ }
+    requires { ⌜ Parts to from step b m lanes (length (now l)) ⌝ }
     requires { ⌜ Bounded (tapBound s) from step m lanes (now l) ⌝ }
     requires { ⌜ Fit s add m lanes a b to from step (now l) ⌝ }
     ensures { λ _. ⌜ Lifted s add m lanes a b to from step (now (l .entry)) (now (l .exit)) ⌝ }
@@ -134,35 +134,38 @@ fn lift_each(
     }
 }
 
-// A lifting step on all m rows. Where they lie end to end, those whose neighbours the border rule gives go row by row, those between as one run.
+// A lifting step on all `rows` rows of a part, from the m rows of the other. Where they lie end to end, those whose neighbours the border rule gives
+// go row by row, those between as one run.
 fn lift(
     s: Step,
     l: &mut [i32],
     to: usize,
     from: usize,
     step: usize,
+    rows: usize,
     m: usize,
     lanes: usize,
     add: bool,
 )
-    requires { ⌜ Parts to from step m lanes (length (now l)) ⌝ }
+    requires { ⌜ rows ≤ m ⌝ }
+    requires { ⌜ Parts to from step rows m lanes (length (now l)) ⌝ }
     requires { ⌜ Bounded (tapBound s) from step m lanes (now l) ⌝ }
-    requires { ⌜ Fit s add m lanes 0 m to from step (now l) ⌝ }
-    ensures { λ _. ⌜ Lifted s add m lanes 0 m to from step (now (l .entry)) (now (l .exit)) ⌝ }
+    requires { ⌜ Fit s add m lanes 0 rows to from step (now l) ⌝ }
+    ensures { λ _. ⌜ Lifted s add m lanes 0 rows to from step (now (l .entry)) (now (l .exit)) ⌝ }
 {
     let a = look_back(s);
     let b = look_ahead(s);
-    if m <= a + b {
-        lift_each(s, l, to, from, step, m, lanes, 0, m, add);
+    if rows <= a + b {
+        lift_each(s, l, to, from, step, m, lanes, 0, rows, add);
         return;
     }
     if step != lanes {
-        lift_each(s, l, to, from, step, m, lanes, 0, m, add);
+        lift_each(s, l, to, from, step, m, lanes, 0, rows, add);
         return;
     }
     lift_each(s, l, to, from, step, m, lanes, 0, a, add);
-    lift_rows(s, l, to, from, step, m, lanes, a, m - a - b, add);
-    lift_each(s, l, to, from, step, m, lanes, m - b, m, add);
+    lift_rows(s, l, to, from, step, m, lanes, a, rows - a - b, add);
+    lift_each(s, l, to, from, step, m, lanes, rows - b, rows, add);
 }
 
 // The pairs of r rows from row n on, which lie end to end, become means and differences; or means and differences become pairs.
@@ -171,17 +174,16 @@ fn pair_rows(
     a: usize,
     b: usize,
     step: usize,
-    m: usize,
     lanes: usize,
     n: usize,
     r: usize,
     join: bool,
 )
-    requires { ⌜ (0 < r) × (n + r ≤ m) ⌝ }
-    requires { ⌜ Parts a b step m lanes (length (now l)) ⌝ }
+    requires { ⌜ 0 < r ⌝ }
+    requires { ⌜ Parts a b step (n + r) (n + r) lanes (length (now l)) ⌝ }
     requires { ⌜ EndToEnd step lanes r ⌝ }
     requires { ⌜ Pairable join a b step lanes n (n + r) (now l) ⌝ }
-    ensures { λ _. ⌜ Both (firsts join) (seconds join) a b step lanes n (n + r) (now (l .entry)) (now (l .exit)) ⌝ }
+    ensures { λ _. ⌜ Both (firsts join) (seconds join) a b step lanes n (n + r) (n + r) (now (l .entry)) (now (l .exit)) ⌝ }
 {
     let first = row_start(l.len(), a, n, step);
     let second = row_start(l.len(), b, n, step);
@@ -192,114 +194,166 @@ fn pair_rows(
     }
 }
 
-// The same for all m rows, one at a time.
+// The same for m pairs of rows, one at a time.
 fn pair_each(l: &mut [i32], a: usize, b: usize, step: usize, m: usize, lanes: usize, join: bool)
-    requires { ⌜ Parts a b step m lanes (length (now l)) ⌝ }
+    requires { ⌜ Parts a b step m m lanes (length (now l)) ⌝ }
     requires { ⌜ Pairable join a b step lanes 0 m (now l) ⌝ }
-    ensures { λ _. ⌜ Both (firsts join) (seconds join) a b step lanes 0 m (now (l .entry)) (now (l .exit)) ⌝ }
+    ensures { λ _. ⌜ Both (firsts join) (seconds join) a b step lanes 0 m m (now (l .entry)) (now (l .exit)) ⌝ }
 {
     for n in 0..m {
-        pair_rows(l, a, b, step, m, lanes, n, 1, join);
+        pair_rows(l, a, b, step, lanes, n, 1, join);
     }
 }
 
 // The same, as one run where the rows lie end to end.
 fn pairs(l: &mut [i32], a: usize, b: usize, step: usize, m: usize, lanes: usize, join: bool)
-    requires { ⌜ Parts a b step m lanes (length (now l)) ⌝ }
+    requires { ⌜ 0 < m ⌝ }
+    requires { ⌜ Parts a b step m m lanes (length (now l)) ⌝ }
     requires { ⌜ Pairable join a b step lanes 0 m (now l) ⌝ }
-    ensures { λ _. ⌜ Both (firsts join) (seconds join) a b step lanes 0 m (now (l .entry)) (now (l .exit)) ⌝ }
+    ensures { λ _. ⌜ Both (firsts join) (seconds join) a b step lanes 0 m m (now (l .entry)) (now (l .exit)) ⌝ }
 {
     if step == lanes {
-        pair_rows(l, a, b, step, m, lanes, 0, m, join);
+        pair_rows(l, a, b, step, lanes, 0, m, join);
     } else {
         pair_each(l, a, b, step, m, lanes, join);
     }
 }
 
 // Kernels 1 and 2, forward: what step s predicts from the means is taken off the differences.
-fn forward_pairs(s: Step, l: &mut [i32], a: usize, b: usize, step: usize, m: usize, lanes: usize)
-    requires { ⌜ Parts a b step m lanes (length (now l)) ⌝ }
-    requires { ⌜ Bounded (5 * 2 ^ 22) a step m lanes (now l) ⌝ }
-    requires { ⌜ Bounded (5 * 2 ^ 22) b step m lanes (now l) ⌝ }
-    ensures { λ _. ⌜ Both (firsts false) (predicted s m) a b step lanes 0 m (now (l .entry)) (now (l .exit)) ⌝ }
+fn forward_pairs(
+    s: Step,
+    l: &mut [i32],
+    a: usize,
+    b: usize,
+    step: usize,
+    lows: usize,
+    highs: usize,
+    lanes: usize,
+)
+    requires { ⌜ (lows ≡ highs) × (0 < highs) ⌝ }
+    requires { ⌜ Parts a b step lows highs lanes (length (now l)) ⌝ }
+    requires { ⌜ Bounded (5 * 2 ^ 22) a step lows lanes (now l) ⌝ }
+    requires { ⌜ Bounded (5 * 2 ^ 22) b step highs lanes (now l) ⌝ }
+    ensures { λ _. ⌜ Both (firsts false) (predicted s lows) a b step lanes 0 lows highs (now (l .entry)) (now (l .exit)) ⌝ }
 {
-    pairs(l, a, b, step, m, lanes, false);
-    lift(s, l, b, a, step, m, lanes, false);
+    pairs(l, a, b, step, highs, lanes, false);
+    lift(s, l, b, a, step, highs, lows, lanes, false);
 }
 
 // Kernel 3, forward.
-fn forward_five_three(l: &mut [i32], a: usize, b: usize, step: usize, m: usize, lanes: usize)
-    requires { ⌜ Parts a b step m lanes (length (now l)) ⌝ }
-    requires { ⌜ Bounded (5 * 2 ^ 22) a step m lanes (now l) ⌝ }
-    requires { ⌜ Bounded (5 * 2 ^ 22) b step m lanes (now l) ⌝ }
-    ensures { λ _. ⌜ Both (lowsOf FiveThree m) (highsOf FiveThree m) a b step lanes 0 m (now (l .entry)) (now (l .exit)) ⌝ }
+fn forward_five_three(
+    l: &mut [i32],
+    a: usize,
+    b: usize,
+    step: usize,
+    lows: usize,
+    highs: usize,
+    lanes: usize,
+)
+    requires { ⌜ lows ≡ highs ⌝ }
+    requires { ⌜ Parts a b step lows highs lanes (length (now l)) ⌝ }
+    requires { ⌜ Bounded (5 * 2 ^ 22) a step lows lanes (now l) ⌝ }
+    requires { ⌜ Bounded (5 * 2 ^ 22) b step highs lanes (now l) ⌝ }
+    ensures { λ _. ⌜ Both (lowsOf FiveThree lows) (highsOf FiveThree lows) a b step lanes 0 lows highs (now (l .entry)) (now (l .exit)) ⌝ }
 {
-    lift(Step::High, l, b, a, step, m, lanes, false);
-    lift(Step::Low, l, a, b, step, m, lanes, true);
+    lift(Step::High, l, b, a, step, highs, lows, lanes, false);
+    lift(Step::Low, l, a, b, step, lows, highs, lanes, true);
 }
 
-// The transforms of `lanes` lines of 2m numbers, whose evens stand at a and whose odds at b: the lows take the evens' place, the highs the odds'.
+// The transforms of `lanes` lines, whose evens stand at a and whose odds at b: the lows take the evens' place, the highs the odds'.
 pub fn forward(
     kernel: Kernel,
     l: &mut [i32],
     a: usize,
     b: usize,
     step: usize,
-    m: usize,
+    lows: usize,
+    highs: usize,
     lanes: usize,
 )
-    requires { ⌜ Parts a b step m lanes (length (now l)) ⌝ }
-    requires { ⌜ Bounded (5 * 2 ^ 22) a step m lanes (now l) ⌝ }
-    requires { ⌜ Bounded (5 * 2 ^ 22) b step m lanes (now l) ⌝ }
-    ensures { λ _. ⌜ Both (lowsOf kernel m) (highsOf kernel m) a b step lanes 0 m (now (l .entry)) (now (l .exit)) ⌝ }
+    requires { ⌜ (lows ≡ highs) × (0 < highs) ⌝ }
+    requires { ⌜ Parts a b step lows highs lanes (length (now l)) ⌝ }
+    requires { ⌜ Bounded (5 * 2 ^ 22) a step lows lanes (now l) ⌝ }
+    requires { ⌜ Bounded (5 * 2 ^ 22) b step highs lanes (now l) ⌝ }
+    ensures { λ _. ⌜ Both (lowsOf kernel lows) (highsOf kernel lows) a b step lanes 0 lows highs (now (l .entry)) (now (l .exit)) ⌝ }
 {
     match kernel {
-        Kernel::S => pairs(l, a, b, step, m, lanes, false),
-        Kernel::SPlusP => forward_pairs(Step::SPlusP, l, a, b, step, m, lanes),
-        Kernel::TT => forward_pairs(Step::TT, l, a, b, step, m, lanes),
-        Kernel::FiveThree => forward_five_three(l, a, b, step, m, lanes),
+        Kernel::S => pairs(l, a, b, step, highs, lanes, false),
+        Kernel::SPlusP => forward_pairs(Step::SPlusP, l, a, b, step, lows, highs, lanes),
+        Kernel::TT => forward_pairs(Step::TT, l, a, b, step, lows, highs, lanes),
+        Kernel::FiveThree => forward_five_three(l, a, b, step, lows, highs, lanes),
     }
 }
 
 // The first step of the way back: what kernels 1 and 2 predict is added to the highs, what kernel 3 adds to the evens is taken off.
-fn begin_all(kernel: Kernel, l: &mut [i32], a: usize, b: usize, step: usize, m: usize, lanes: usize)
-    requires { ⌜ Parts a b step m lanes (length (now l)) ⌝ }
-    requires { ⌜ Bounded (2 ^ 28) a step m lanes (now l) ⌝ }
-    requires { ⌜ Bounded (2 ^ 24) b step m lanes (now l) ⌝ }
-    ensures { λ _. ⌜ Both (begunFirst kernel m) (begunSecond kernel m) a b step lanes 0 m (now (l .entry)) (now (l .exit)) ⌝ }
+fn begin_all(
+    kernel: Kernel,
+    l: &mut [i32],
+    a: usize,
+    b: usize,
+    step: usize,
+    lows: usize,
+    highs: usize,
+    lanes: usize,
+)
+    requires { ⌜ lows ≡ highs ⌝ }
+    requires { ⌜ Parts a b step lows highs lanes (length (now l)) ⌝ }
+    requires { ⌜ Bounded (2 ^ 28) a step lows lanes (now l) ⌝ }
+    requires { ⌜ Bounded (2 ^ 24) b step highs lanes (now l) ⌝ }
+    ensures { λ _. ⌜ Both (begunFirst kernel highs) (begunSecond kernel lows) a b step lanes 0 lows highs (now (l .entry)) (now (l .exit)) ⌝ }
 {
     match kernel {
         Kernel::S => {}
-        Kernel::SPlusP => lift(Step::SPlusP, l, b, a, step, m, lanes, true),
-        Kernel::TT => lift(Step::TT, l, b, a, step, m, lanes, true),
-        Kernel::FiveThree => lift(Step::Low, l, a, b, step, m, lanes, false),
+        Kernel::SPlusP => lift(Step::SPlusP, l, b, a, step, highs, lows, lanes, true),
+        Kernel::TT => lift(Step::TT, l, b, a, step, highs, lows, lanes, true),
+        Kernel::FiveThree => lift(Step::Low, l, a, b, step, lows, highs, lanes, false),
     }
 }
 
 // The last step.
-fn end_all(kernel: Kernel, l: &mut [i32], a: usize, b: usize, step: usize, m: usize, lanes: usize)
-    requires { ⌜ Parts a b step m lanes (length (now l)) ⌝ }
-    requires { ⌜ Bounded (2 ^ 29) a step m lanes (now l) ⌝ }
-    requires { ⌜ Bounded (2 ^ 29) b step m lanes (now l) ⌝ }
-    ensures { λ _. ⌜ Both (endedFirst kernel) (endedSecond kernel m) a b step lanes 0 m (now (l .entry)) (now (l .exit)) ⌝ }
+fn end_all(
+    kernel: Kernel,
+    l: &mut [i32],
+    a: usize,
+    b: usize,
+    step: usize,
+    lows: usize,
+    highs: usize,
+    lanes: usize,
+)
+    requires { ⌜ (lows ≡ highs) × (0 < highs) ⌝ }
+    requires { ⌜ Parts a b step lows highs lanes (length (now l)) ⌝ }
+    requires { ⌜ Bounded (2 ^ 29) a step lows lanes (now l) ⌝ }
+    requires { ⌜ Bounded (2 ^ 29) b step highs lanes (now l) ⌝ }
+    ensures { λ _. ⌜ Both (endedFirst kernel) (endedSecond kernel lows) a b step lanes 0 lows highs (now (l .entry)) (now (l .exit)) ⌝ }
 {
     match kernel {
-        Kernel::S => pairs(l, a, b, step, m, lanes, true),
-        Kernel::SPlusP => pairs(l, a, b, step, m, lanes, true),
-        Kernel::TT => pairs(l, a, b, step, m, lanes, true),
-        Kernel::FiveThree => lift(Step::High, l, b, a, step, m, lanes, true),
+        Kernel::S => pairs(l, a, b, step, highs, lanes, true),
+        Kernel::SPlusP => pairs(l, a, b, step, highs, lanes, true),
+        Kernel::TT => pairs(l, a, b, step, highs, lanes, true),
+        Kernel::FiveThree => lift(Step::High, l, b, a, step, highs, lows, lanes, true),
     }
 }
 
-// The way back: the lows of `lanes` lines of 2m numbers stand at a, their highs at b, and the lines' evens and odds take their place.
-pub fn back(kernel: Kernel, l: &mut [i32], a: usize, b: usize, step: usize, m: usize, lanes: usize)
-    requires { ⌜ Parts a b step m lanes (length (now l)) ⌝ }
-    requires { ⌜ Bounded (2 ^ 28) a step m lanes (now l) ⌝ }
-    requires { ⌜ Bounded (2 ^ 24) b step m lanes (now l) ⌝ }
-    ensures { λ _. ⌜ Both (line.undoneEvens kernel m) (line.undoneOdds kernel m) a b step lanes 0 m (now (l .entry)) (now (l .exit)) ⌝ }
+// The way back: the lows of `lanes` lines stand at a, their highs at b, and the lines' evens and odds take their place.
+pub fn back(
+    kernel: Kernel,
+    l: &mut [i32],
+    a: usize,
+    b: usize,
+    step: usize,
+    lows: usize,
+    highs: usize,
+    lanes: usize,
+)
+    requires { ⌜ (lows ≡ highs) × (0 < highs) ⌝ }
+    requires { ⌜ Parts a b step lows highs lanes (length (now l)) ⌝ }
+    requires { ⌜ Bounded (2 ^ 28) a step lows lanes (now l) ⌝ }
+    requires { ⌜ Bounded (2 ^ 24) b step highs lanes (now l) ⌝ }
+    ensures { λ _. ⌜ Both (line.undoneEvens kernel lows) (line.undoneOdds kernel lows) a b step lanes 0 lows highs (now (l .entry)) (now (l .exit)) ⌝ }
 {
-    begin_all(kernel, l, a, b, step, m, lanes);
-    end_all(kernel, l, a, b, step, m, lanes);
+    begin_all(kernel, l, a, b, step, lows, highs, lanes);
+    end_all(kernel, l, a, b, step, lows, highs, lanes);
 }
 
 // The first step on the rows d up to e alone.
@@ -309,43 +363,45 @@ pub fn begin_rows(
     a: usize,
     b: usize,
     step: usize,
-    m: usize,
+    lows: usize,
+    highs: usize,
     lanes: usize,
     d: usize,
     e: usize,
 )
-    requires { ⌜ (d ≤ e) × (e ≤ m) ⌝ }
-    requires { ⌜ Parts a b step m lanes (length (now l)) ⌝ }
-    requires { ⌜ Begins kernel a b step m lanes d e (now l) ⌝ }
-    ensures { λ _. ⌜ Both (begunFirst kernel m) (begunSecond kernel m) a b step lanes d e (now (l .entry)) (now (l .exit)) ⌝ }
+    requires { ⌜ (d ≤ e) × (e ≤ lows) × (e ≤ highs) ⌝ }
+    requires { ⌜ Parts a b step lows highs lanes (length (now l)) ⌝ }
+    requires { ⌜ Begins kernel a b step lows highs lanes d e (now l) ⌝ }
+    ensures { λ _. ⌜ Both (begunFirst kernel highs) (begunSecond kernel lows) a b step lanes d e e (now (l .entry)) (now (l .exit)) ⌝ }
 {
     match kernel {
         Kernel::S => {}
-        Kernel::SPlusP => lift_each(Step::SPlusP, l, b, a, step, m, lanes, d, e, true),
-        Kernel::TT => lift_each(Step::TT, l, b, a, step, m, lanes, d, e, true),
-        Kernel::FiveThree => lift_each(Step::Low, l, a, b, step, m, lanes, d, e, false),
+        Kernel::SPlusP => lift_each(Step::SPlusP, l, b, a, step, lows, lanes, d, e, true),
+        Kernel::TT => lift_each(Step::TT, l, b, a, step, lows, lanes, d, e, true),
+        Kernel::FiveThree => lift_each(Step::Low, l, a, b, step, highs, lanes, d, e, false),
     }
 }
 
-// The last step on the first row alone; it looks at the rows behind.
+// The last step on the first row of each part alone; it looks at the rows of lows behind.
 pub fn end_row(
     kernel: Kernel,
     l: &mut [i32],
     a: usize,
     b: usize,
     step: usize,
-    m: usize,
+    lows: usize,
     lanes: usize,
 )
-    requires { ⌜ Parts a b step m lanes (length (now l)) ⌝ }
-    requires { ⌜ Bounded (2 ^ 29) a step m lanes (now l) ⌝ }
-    requires { ⌜ Bounded (2 ^ 29) b step m lanes (now l) ⌝ }
-    ensures { λ _. ⌜ Both (endedFirst kernel) (endedSecond kernel m) a b step lanes 0 1 (now (l .entry)) (now (l .exit)) ⌝ }
+    requires { ⌜ 0 < lows ⌝ }
+    requires { ⌜ Parts a b step lows 1 lanes (length (now l)) ⌝ }
+    requires { ⌜ Bounded (2 ^ 29) a step lows lanes (now l) ⌝ }
+    requires { ⌜ Bounded (2 ^ 29) b step 1 lanes (now l) ⌝ }
+    ensures { λ _. ⌜ Both (endedFirst kernel) (endedSecond kernel lows) a b step lanes 0 1 1 (now (l .entry)) (now (l .exit)) ⌝ }
 {
     match kernel {
-        Kernel::S => pair_rows(l, a, b, step, m, lanes, 0, 1, true),
-        Kernel::SPlusP => pair_rows(l, a, b, step, m, lanes, 0, 1, true),
-        Kernel::TT => pair_rows(l, a, b, step, m, lanes, 0, 1, true),
-        Kernel::FiveThree => lift_rows(Step::High, l, b, a, step, m, lanes, 0, 1, true),
+        Kernel::S => pair_rows(l, a, b, step, lanes, 0, 1, true),
+        Kernel::SPlusP => pair_rows(l, a, b, step, lanes, 0, 1, true),
+        Kernel::TT => pair_rows(l, a, b, step, lanes, 0, 1, true),
+        Kernel::FiveThree => lift_rows(Step::High, l, b, a, step, lows, lanes, 0, 1, true),
     }
 }

@@ -1,7 +1,7 @@
 -- The lines that a transform of two parts makes, the second part behind the first. Assumes nothing.
-use mathlib.Core.Path.{_≡_, sym, ap, _∙_}
+use mathlib.Core.Path.{_≡_, refl, sym, ap, _∙_}
 use mathlib.Core.List.{List}
-use Prim.Native.Nat.{ℕ, _+_, _*_, _-_, _/_, _<_}
+use Prim.Native.Nat.{ℕ, _+_, _*_, _-_, _/_, _%_, _<_}
 use native.Mathlib.Nat.{add-mul}
 use native.Mathlib.Omega.{arith}
 use lib.IntN.{ℤ, pos}
@@ -20,18 +20,15 @@ use Rattle.lifting.specs.Parts.{lane, Both}
 use Rattle.lifting.specs.Lines.{lowsOf, highsOf}
 use Rattle.passes.proofs.Places.{high-place}
 
-forward-double : (k : Kernel) (m : ℕ) (X : Line ℤ) → forward k (2 * m) X ≡ joined m (low k m X) (high k m X)
+forward-joined : (k : Kernel) (w : ℕ) (X : Line ℤ) → forward k w X ≡ joined (lowSide w) (low k (lowSide w) X) (high k (lowSide w) X)
 unfolding forward
-forward-double k m X = let e : 2 * m / 2 ≡ m = omega arith in rw e
+forward-joined k w X = refl
 
-back-double : (k : Kernel) (m : ℕ) (Y : Line ℤ) → back k (2 * m) Y ≡ paired (undoneEvens k m Y (behind m Y)) (undoneOdds k m Y (behind m Y))
+back-paired : (k : Kernel) (w : ℕ) (Y : Line ℤ) → back k w Y ≡ paired (undoneEvens k (lowSide w) Y (behind (lowSide w) Y)) (undoneOdds k (lowSide w) Y (behind (lowSide w) Y))
 unfolding back
-back-double k m Y = let e : 2 * m / 2 ≡ m = omega arith in rw e
+back-paired k w Y = refl
 
-half : (m : ℕ) → lowSide (2 * m) ≡ m
-half m = omega arith
-
-module _ (k : Kernel) (m c : ℕ) (l l′ : List ℤ) where
+module _ (k : Kernel) (w c : ℕ) (even : w % 2 ≡ 0) (l l′ : List ℤ) where
   -- ---- the second part behind the first, t apart
   module _ (s t : ℕ) where
     line : ℕ → Line ℤ
@@ -41,47 +38,47 @@ module _ (k : Kernel) (m c : ℕ) (l l′ : List ℤ) where
     unfolding line
     first-in j n = ap (λ (i : ℕ). getD l i (pos 0)) (omega arith)
 
-    second-in : (j n : ℕ) → lane (s + m * t) t l j n ≡ line j (m + n)
+    second-in : (j n : ℕ) → lane (s + lowSide w * t) t l j n ≡ line j (lowSide w + n)
     unfolding line
-    second-in j n = ap (λ (i : ℕ). getD l i (pos 0)) (omega (arith, add-mul m n t))
+    second-in j n = ap (λ (i : ℕ). getD l i (pos 0)) (omega (arith, add-mul (lowSide w) n t))
 
-    pub forward-form : Both (lowsOf k m) (highsOf k m) s (s + m * t) t c 0 m l l′ → Lines (onWoven (forward k)) (pos 0) s t (2 * m) c l l′
+    pub forward-form : Both (lowsOf k (lowSide w)) (highsOf k (lowSide w)) s (s + lowSide w * t) t c 0 (lowSide w) (w / 2) l l′ → Lines (onWoven (forward k)) (pos 0) s t w c l l′
     unfolding line
     forward-form f = record {
       size = f .size;
-      on = λ n j h r. by-lt n m
-          (λ lt. f .first n j (omega arith) lt r ∙ low-local m (parts j) (woven (2 * m) (line j)) (agree j) k n lt
-          ∙ sym (ap (λ (X : Line ℤ). X n) (forward-double k m (woven (2 * m) (line j))) ∙ joined-low m _ _ n lt))
-          (λ ge. let i : ℕ = n - m in let e : m + i ≡ n = omega arith in
-          let q : getD l′ (s + (m + i) * t + j) (pos 0) ≡ onWoven (forward k) (2 * m) (line j) (m + i)
-          = ap (λ (x : ℕ). getD l′ x (pos 0)) (sym (high-place s t i j m)) ∙ f .second i j (omega arith) (omega arith) r
-          ∙ high-local m (parts j) (woven (2 * m) (line j)) (agree j) k i (omega arith)
-          ∙ sym (ap (λ (X : Line ℤ). X (m + i)) (forward-double k m (woven (2 * m) (line j))) ∙ joined-high m _ _ i) in
+      on = λ n j h r. by-lt n (lowSide w)
+          (λ lt. f .first n j (omega arith) lt r ∙ low-local (lowSide w) (parts j) (woven w (line j)) (agree j) k n lt
+          ∙ sym (ap (λ (X : Line ℤ). X n) (forward-joined k w (woven w (line j))) ∙ joined-low (lowSide w) _ _ n lt))
+          (λ ge. let i : ℕ = n - lowSide w in let e : lowSide w + i ≡ n = omega arith in
+          let q : getD l′ (s + (lowSide w + i) * t + j) (pos 0) ≡ onWoven (forward k) w (line j) (lowSide w + i)
+          = ap (λ (x : ℕ). getD l′ x (pos 0)) (sym (high-place s t i j (lowSide w))) ∙ f .second i j (omega arith) (omega arith) r
+          ∙ high-local (lowSide w) (parts j) (woven w (line j)) (agree j) k i (omega arith)
+          ∙ sym (ap (λ (X : Line ℤ). X (lowSide w + i)) (forward-joined k w (woven w (line j))) ∙ joined-high (lowSide w) _ _ i) in
           rw e at q);
-      off = λ i no. f .off i (λ n j o h r e. no n j (omega arith) r e) (λ n j o h r e. no (m + n) j (omega arith) r (e ∙ high-place s t n j m));
+      off = λ i no. f .off i (λ n j o h r e. no n j (omega arith) r e) (λ n j o h r e. no (lowSide w + n) j (omega arith) r (e ∙ high-place s t n j (lowSide w)));
     }
       where
         parts : ℕ → Line ℤ
-        parts j = paired (lane s t l j) (lane (s + m * t) t l j)
+        parts j = paired (lane s t l j) (lane (s + lowSide w * t) t l j)
 
-        agree : (j : ℕ) → Agree (2 * m) (paired (lane s t l j) (lane (s + m * t) t l j)) (woven (2 * m) (line j))
-        agree j = by-parity (λ x. x < 2 * m → paired (lane s t l j) (lane (s + m * t) t l j) x ≡ woven (2 * m) (line j) x)
-            (λ n h. paired-even _ _ n ∙ first-in j n ∙ sym (woven-even (2 * m) n (line j)))
-            (λ n h. paired-odd _ _ n ∙ second-in j n ∙ ap (line j) (ap (λ (q : ℕ). q + n) (sym (half m))) ∙ sym (woven-odd (2 * m) n (line j)))
+        agree : (j : ℕ) → Agree (2 * lowSide w) (paired (lane s t l j) (lane (s + lowSide w * t) t l j)) (woven w (line j))
+        agree j = by-parity (λ x. x < 2 * lowSide w → paired (lane s t l j) (lane (s + lowSide w * t) t l j) x ≡ woven w (line j) x)
+            (λ n h. paired-even _ _ n ∙ first-in j n ∙ sym (woven-even w n (line j)))
+            (λ n h. paired-odd _ _ n ∙ second-in j n ∙ sym (woven-odd w n (line j)))
 
     -- the way back, its evens in front and its odds behind
-    pub back-form : Both (undoneEvens k m) (undoneOdds k m) s (s + m * t) t c 0 m l l′ → Lines (λ w Y. parted w (back k w Y)) (pos 0) s t (2 * m) c l l′
+    pub back-form : Both (undoneEvens k (lowSide w)) (undoneOdds k (lowSide w)) s (s + lowSide w * t) t c 0 (lowSide w) (w / 2) l l′ → Lines (λ n Y. parted n (back k n Y)) (pos 0) s t w c l l′
     unfolding line
     back-form f = record {
       size = f .size;
-      on = λ n j h r. by-lt n m
-          (λ lt. f .first n j (omega arith) lt r ∙ first-local m _ _ (line j) (behind m (line j)) (λ i q. first-in j i) (λ i q. second-in j i) k n lt
-          ∙ sym (parted-even (2 * m) n (back k (2 * m) (line j)) (omega (arith, half m)) ∙ ap (λ (X : Line ℤ). X (2 * n)) (back-double k m (line j)) ∙ paired-even _ _ n))
-          (λ ge. let i : ℕ = n - m in let e : m + i ≡ n = omega arith in
-          let q : getD l′ (s + (m + i) * t + j) (pos 0) ≡ parted (2 * m) (back k (2 * m) (line j)) (m + i)
-          = ap (λ (x : ℕ). getD l′ x (pos 0)) (sym (high-place s t i j m)) ∙ f .second i j (omega arith) (omega arith) r
-          ∙ second-local m _ _ (line j) (behind m (line j)) (λ i q. first-in j i) (λ i q. second-in j i) k i (omega arith)
-          ∙ sym (ap (λ (x : ℕ). parted (2 * m) (back k (2 * m) (line j)) (x + i)) (sym (half m)) ∙ parted-odd (2 * m) i (back k (2 * m) (line j)) ∙ ap (λ (X : Line ℤ). X (2 * i + 1)) (back-double k m (line j)) ∙ paired-odd _ _ i) in
+      on = λ n j h r. by-lt n (lowSide w)
+          (λ lt. f .first n j (omega arith) lt r ∙ first-local (lowSide w) _ _ (line j) (behind (lowSide w) (line j)) (λ i q. first-in j i) (λ i q. second-in j i) k n lt
+          ∙ sym (parted-even w n (back k w (line j)) lt ∙ ap (λ (X : Line ℤ). X (2 * n)) (back-paired k w (line j)) ∙ paired-even _ _ n))
+          (λ ge. let i : ℕ = n - lowSide w in let e : lowSide w + i ≡ n = omega arith in
+          let q : getD l′ (s + (lowSide w + i) * t + j) (pos 0) ≡ parted w (back k w (line j)) (lowSide w + i)
+          = ap (λ (x : ℕ). getD l′ x (pos 0)) (sym (high-place s t i j (lowSide w))) ∙ f .second i j (omega arith) (omega arith) r
+          ∙ second-local (lowSide w) _ _ (line j) (behind (lowSide w) (line j)) (λ i q. first-in j i) (λ i q. second-in j i) k i (omega arith)
+          ∙ sym (parted-odd w i (back k w (line j)) ∙ ap (λ (X : Line ℤ). X (2 * i + 1)) (back-paired k w (line j)) ∙ paired-odd _ _ i) in
           rw e at q);
-      off = λ i no. f .off i (λ n j o h r e. no n j (omega arith) r e) (λ n j o h r e. no (m + n) j (omega arith) r (e ∙ high-place s t n j m));
+      off = λ i no. f .off i (λ n j o h r e. no n j (omega arith) r e) (λ n j o h r e. no (lowSide w + n) j (omega arith) r (e ∙ high-place s t n j (lowSide w)));
     }

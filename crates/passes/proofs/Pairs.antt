@@ -1,8 +1,8 @@
 -- One pair of rows of a level's way back: its columns ended, and each of its rows taken back. Assumes nothing.
-use mathlib.Core.Path.{_≡_, sym, ap, subst, _∙_}
+use mathlib.Core.Path.{_≡_, sym, ap, _∙_}
 use mathlib.Core.Bool.{true, false}
 use mathlib.Core.List.{List}
-use Prim.Native.Nat.{ℕ, _+_, _*_, _/_, _%_, _<_, _≤_}
+use Prim.Native.Nat.{ℕ, _+_, _*_, _%_, _<_, _≤_}
 use native.Mathlib.Omega.{arith}
 use lib.IntN.{ℤ, pos}
 use lib.ListN.{length}
@@ -18,8 +18,8 @@ use Rattle.passes.specs.Passes.{Takes}
 use Rattle.passes.specs.Pairs.{endedRow, PairBack}
 use Rattle.passes.proofs.Running.{takes-agree}
 
-module _ (k : Kernel) (M s t w : ℕ) {l l₁ : List ℤ} (g : Parts s (s + t) (2 * t) M w (length l)) (even : w % 2 ≡ 0) (wide : w ≤ t)
-    (f : Both (endedFirst k) (endedSecond k M) s (s + t) (2 * t) w 0 1 l l₁) where
+module _ (k : Kernel) (M s t w : ℕ) {l l₁ : List ℤ} (some : 0 < M) (g : Parts s (s + t) (2 * t) M 1 w (length l)) (even : w % 2 ≡ 0) (wide : w ≤ t)
+    (f : Both (endedFirst k) (endedSecond k M) s (s + t) (2 * t) w 0 1 1 l l₁) where
   ended-low : (x : ℕ) → x < w → cell l₁ (s + x) ≡ endedRow false k M s t l x
   ended-low x h = ap (cell l₁) (omega arith) ∙ f .first 0 x (omega arith) (omega arith) h
 
@@ -29,30 +29,27 @@ module _ (k : Kernel) (M s t w : ℕ) {l l₁ : List ℤ} (g : Parts s (s + t) (
   low-line : Agree w (strided (pos 0) l₁ (s + 0) 1) (endedRow false k M s t l)
   low-line x h = ap (cell l₁) (omega arith) ∙ ended-low x h
 
-  pub low-inside : InBuffer l₁ s 1 (2 * (w / 2)) 1
-  low-inside = record { some = omega arith; apart = omega arith; place = λ n j h r. omega (arith, f .size, g .first .place 0 n (g .some) (omega arith)) }
+  pub low-inside : InBuffer l₁ s 1 w 1
+  low-inside = record { some = omega arith; apart = omega arith; place = λ n j h r. omega (arith, f .size, g .first .place 0 n some h) }
 
-  pub low-takes : Takes true w (endedRow false k M s t l) → Takes true (2 * (w / 2)) (strided (pos 0) l₁ (s + 0) 1)
-  low-takes all = let e : 2 * (w / 2) ≡ w = omega arith in rw e (takes-agree true w (endedRow false k M s t l) _ even (λ x h. sym (low-line x h)) all)
+  pub low-takes : Takes true w (endedRow false k M s t l) → Takes true w (strided (pos 0) l₁ (s + 0) 1)
+  low-takes all = takes-agree true w (endedRow false k M s t l) _ even (λ x h. sym (low-line x h)) all
 
-  module _ {l₂ : List ℤ} (p : Lines (back k) (pos 0) s 1 (2 * (w / 2)) 1 l₁ l₂) where
+  module _ {l₂ : List ℤ} (p : Lines (back k) (pos 0) s 1 w 1 l₁ l₂) where
     high-line : Agree w (strided (pos 0) l₂ (s + t + 0) 1) (endedRow true k M s t l)
     high-line x h = p .off (s + t + 0 + x * 1) (λ n j r q e. omega arith) ∙ ap (cell l₁) (omega arith) ∙ ended-high x h
 
-    pub high-inside : InBuffer l₂ (s + t) 1 (2 * (w / 2)) 1
-    high-inside = record { some = omega arith; apart = omega arith; place = λ n j h r. omega (arith, p .size, f .size, g .second .place 0 n (g .some) (omega arith)) }
+    pub high-inside : InBuffer l₂ (s + t) 1 w 1
+    high-inside = record { some = omega arith; apart = omega arith; place = λ n j h r. omega (arith, p .size, f .size, g .second .place 0 n (omega arith) h) }
 
-    pub high-takes : Takes true w (endedRow true k M s t l) → Takes true (2 * (w / 2)) (strided (pos 0) l₂ (s + t + 0) 1)
-    high-takes all = let e : 2 * (w / 2) ≡ w = omega arith in rw e (takes-agree true w (endedRow true k M s t l) _ even (λ x h. sym (high-line x h)) all)
+    pub high-takes : Takes true w (endedRow true k M s t l) → Takes true w (strided (pos 0) l₂ (s + t + 0) 1)
+    high-takes all = takes-agree true w (endedRow true k M s t l) _ even (λ x h. sym (high-line x h)) all
 
-    pub pair-back : {l₃ : List ℤ} → Lines (back k) (pos 0) (s + t) 1 (2 * (w / 2)) 1 l₂ l₃ → PairBack k M s t w l l₃
-    pair-back {l₃} q =
-        let e : 2 * (w / 2) ≡ w = omega arith in
-        let p′ : Lines (back k) (pos 0) s 1 w 1 l₁ l₂ = subst (λ (n : ℕ). Lines (back k) (pos 0) s 1 n 1 l₁ l₂) e p in
-        let q′ : Lines (back k) (pos 0) (s + t) 1 w 1 l₂ l₃ = subst (λ (n : ℕ). Lines (back k) (pos 0) (s + t) 1 n 1 l₂ l₃) e q in record {
-          size = q .size ∙ p .size ∙ f .size;
-          low = λ x h. q′ .off (s + x) (λ n j r i z. omega arith) ∙ ap (cell l₂) (omega arith) ∙ p′ .on x 0 h (omega arith) ∙ back-local k w _ _ even low-line x h;
-          high = λ x h. ap (cell l₃) (omega arith) ∙ q′ .on x 0 h (omega arith) ∙ back-local k w _ _ even high-line x h;
-          off = λ i a b. q′ .off i (λ n j r z y. b n r (omega arith)) ∙ p′ .off i (λ n j r z y. a n r (omega arith))
-              ∙ f .off i (λ n j u v z y. let o : n ≡ 0 = omega arith in let y′ = rw o at y in a j z (omega arith)) (λ n j u v z y. let o : n ≡ 0 = omega arith in let y′ = rw o at y in b j z (omega arith));
-        }
+    pub pair-back : {l₃ : List ℤ} → Lines (back k) (pos 0) (s + t) 1 w 1 l₂ l₃ → PairBack k M s t w l l₃
+    pair-back {l₃} q = record {
+      size = q .size ∙ p .size ∙ f .size;
+      low = λ x h. q .off (s + x) (λ n j r i z. omega arith) ∙ ap (cell l₂) (omega arith) ∙ p .on x 0 h (omega arith) ∙ back-local k w _ _ even low-line x h;
+      high = λ x h. ap (cell l₃) (omega arith) ∙ q .on x 0 h (omega arith) ∙ back-local k w _ _ even high-line x h;
+      off = λ i a b. q .off i (λ n j r z y. b n r (omega arith)) ∙ p .off i (λ n j r z y. a n r (omega arith))
+          ∙ f .off i (λ n j u v z y. let o : n ≡ 0 = omega arith in let y′ = rw o at y in a j z (omega arith)) (λ n j u v z y. let o : n ≡ 0 = omega arith in let y′ = rw o at y in b j z (omega arith));
+    }

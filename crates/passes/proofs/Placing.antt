@@ -17,7 +17,7 @@ use Rattle.line.specs.Cells.{Line}
 use Rattle.line.specs.Transform.{low, high, forward}
 use Rattle.line.proofs.Cells.{by-lt, by-parity}
 use Rattle.line.proofs.Local.{forward-local}
-use Rattle.grid.specs.Picture.{rowPass, turned, colPass, picture}
+use Rattle.grid.specs.Picture.{rowPass, turned, colPass, lowSide, picture}
 use Rattle.grid.specs.Placed.{parted, woven}
 use Rattle.grid.proofs.Passes.{cell, cell-past}
 use Rattle.grid.proofs.Outside.{row-below, row-right}
@@ -30,10 +30,9 @@ use Rattle.passes.specs.Passes.{pictured}
 use Rattle.passes.proofs.Forms.{forward-form}
 
 -- ---- one row, parted in place
-pub row-parts : (at m size : ℕ) → 0 < m → m < 2 ^ 32 → at + 2 * m ≤ size → Parts at (at + m) 1 m 1 size
-row-parts at m size some few room = record {
-  some = some;
-  few = few;
+pub row-parts : (at w size : ℕ) → w % 2 ≡ 0 → w < 2 ^ 32 → at + w ≤ size → Parts at (at + lowSide w) 1 (lowSide w) (w / 2) 1 size
+row-parts at w size even few room = record {
+  few = (omega arith, omega arith);
   lines = omega arith;
   wide = omega arith;
   first = record { place = λ n j h k. omega arith };
@@ -41,8 +40,8 @@ row-parts at m size some few room = record {
   apart = λ n j n′ j′ h k h′ k′ e. omega arith;
 }
 
-pub row-places : {A : Type 0} (at m : ℕ) (l : List A) → at + 2 * m ≤ length l → Places (λ k. at + k) (λ k. at + m + k) m l
-row-places at m l h = record {
+pub row-places : {A : Type 0} (at w : ℕ) (l : List A) → at + w ≤ length l → Places (λ k. at + k) (λ k. at + lowSide w + k) (w / 2) l
+row-places at w l h = record {
   first = λ k r. omega arith;
   second = λ k r. omega arith;
   apart = λ i k r p e. omega arith;
@@ -50,40 +49,40 @@ row-places at m l h = record {
   seconds = λ i k r e. omega arith;
 }
 
-module _ (X : Line ℤ) (at m : ℕ) {l l₁ : List ℤ} (p : Twofold (pos 0) (λ k. X (2 * k)) (λ k. X (2 * k + 1)) (λ k. at + k) (λ k. at + m + k) m l l₁) where
-  front : (n j : ℕ) → n < m → j < 1 → lane at 1 l₁ j n ≡ X (2 * n)
+module _ (X : Line ℤ) (at w : ℕ) {l l₁ : List ℤ} (even : w % 2 ≡ 0) (p : Twofold (pos 0) (λ k. X (2 * k)) (λ k. X (2 * k + 1)) (λ k. at + k) (λ k. at + lowSide w + k) (w / 2) l l₁) where
+  front : (n j : ℕ) → n < lowSide w → j < 1 → lane at 1 l₁ j n ≡ X (2 * n)
   front n j h k = ap (λ (i : ℕ). getD l₁ i (pos 0)) (omega arith) ∙ p .first n h
 
-  rear : (n j : ℕ) → n < m → j < 1 → lane (at + m) 1 l₁ j n ≡ X (2 * n + 1)
+  rear : (n j : ℕ) → n < w / 2 → j < 1 → lane (at + lowSide w) 1 l₁ j n ≡ X (2 * n + 1)
   rear n j h k = ap (λ (i : ℕ). getD l₁ i (pos 0)) (omega arith) ∙ p .second n h
 
-  module _ (all : AllWithin (5 * 2 ^ 22) (2 * m) X) where
-    pub front-bounded : Bounded (5 * 2 ^ 22) at 1 m 1 l₁
+  module _ (all : AllWithin (5 * 2 ^ 22) w X) where
+    pub front-bounded : Bounded (5 * 2 ^ 22) at 1 (lowSide w) 1 l₁
     front-bounded = record { each = λ j k n h. rw (front n j h k) (all (2 * n) (omega arith)) }
 
-    pub rear-bounded : Bounded (5 * 2 ^ 22) (at + m) 1 m 1 l₁
+    pub rear-bounded : Bounded (5 * 2 ^ 22) (at + lowSide w) 1 (w / 2) 1 l₁
     rear-bounded = record { each = λ j k n h. rw (rear n j h k) (all (2 * n + 1) (omega arith)) }
 
-  pub row-stored : (k : Kernel) {l₂ : List ℤ} → Both (lowsOf k m) (highsOf k m) at (at + m) 1 1 0 m l₁ l₂ → Written (forward k (2 * m) X) at (2 * m) l l₂
+  pub row-stored : (k : Kernel) {l₂ : List ℤ} → Both (lowsOf k (lowSide w)) (highsOf k (lowSide w)) at (at + lowSide w) 1 1 0 (lowSide w) (w / 2) l₁ l₂ → Written (forward k w X) at w l l₂
   row-stored k {l₂} f =
-      let e : at + m ≡ at + m * 1 = omega arith in
-      let g = forward-form k m 1 l₁ l₂ at 1 (subst (λ (b : ℕ). Both (lowsOf k m) (highsOf k m) at b 1 1 0 m l₁ l₂) e f) in
+      let e : at + lowSide w ≡ at + lowSide w * 1 = omega arith in
+      let g = forward-form k w 1 even l₁ l₂ at 1 (subst (λ (b : ℕ). Both (lowsOf k (lowSide w)) (highsOf k (lowSide w)) at b 1 1 0 (lowSide w) (w / 2) l₁ l₂) e f) in
       record {
         size = f .size ∙ p .size;
-        on = λ n h. ap (λ (i : ℕ). getD l₂ i (pos 0)) (omega arith) ∙ g .on n 0 h (omega arith) ∙ forward-local k (2 * m) _ X (omega arith) same n h;
+        on = λ n h. ap (λ (i : ℕ). getD l₂ i (pos 0)) (omega arith) ∙ g .on n 0 h (omega arith) ∙ forward-local k w _ X even same n h;
         below = λ i h. g .off i (λ n j r q e. omega arith) ∙ p .off i (λ n r e. omega arith) (λ n r e. omega arith);
         above = λ i h. g .off i (λ n j r q e. omega arith) ∙ p .off i (λ n r e. omega arith) (λ n r e. omega arith);
       }
     where
-      same : Agree (2 * m) (woven (2 * m) (λ n. getD l₁ (at + 0 + n * 1) (pos 0))) X
-      same = by-parity (λ x. x < 2 * m → woven (2 * m) (λ n. getD l₁ (at + 0 + n * 1) (pos 0)) x ≡ X x)
-          (λ n r. woven-even (2 * m) n _ ∙ ap (λ (i : ℕ). getD l₁ i (pos 0)) (omega arith) ∙ front n 0 (omega arith) (omega arith))
-          (λ n r. woven-odd (2 * m) n _ ∙ ap (λ (i : ℕ). getD l₁ i (pos 0)) (omega arith) ∙ rear n 0 (omega arith) (omega arith))
+      same : Agree w (woven w (λ n. getD l₁ (at + 0 + n * 1) (pos 0))) X
+      same = by-parity (λ x. x < w → woven w (λ n. getD l₁ (at + 0 + n * 1) (pos 0)) x ≡ X x)
+          (λ n r. woven-even w n _ ∙ ap (λ (i : ℕ). getD l₁ i (pos 0)) (omega arith) ∙ front n 0 (omega arith) (omega arith))
+          (λ n r. woven-odd w n _ ∙ ap (λ (i : ℕ). getD l₁ i (pos 0)) (omega arith) ∙ rear n 0 (omega arith) (omega arith))
 
-pub samples-parted : (s : List ℕ) (from at m : ℕ) {l l₁ : List ℤ}
-    → Twofold (pos 0) (λ k. pos (getD s (from + 2 * k) 0)) (λ k. pos (getD s (from + 2 * k + 1) 0)) (λ k. at + k) (λ k. at + m + k) m l l₁
-    → Twofold (pos 0) (λ k. pos (getD s (from + 2 * k) 0)) (λ k. pos (getD s (from + (2 * k + 1)) 0)) (λ k. at + k) (λ k. at + m + k) m l l₁
-samples-parted s from at m p = record { size = p .size; first = p .first; second = λ k h. p .second k h ∙ ap (λ (i : ℕ). pos (getD s i 0)) (omega arith); off = p .off }
+pub samples-parted : (s : List ℕ) (from at w : ℕ) {l l₁ : List ℤ}
+    → Twofold (pos 0) (λ k. pos (getD s (from + 2 * k) 0)) (λ k. pos (getD s (from + 2 * k + 1) 0)) (λ k. at + k) (λ k. at + lowSide w + k) (w / 2) l l₁
+    → Twofold (pos 0) (λ k. pos (getD s (from + 2 * k) 0)) (λ k. pos (getD s (from + (2 * k + 1)) 0)) (λ k. at + k) (λ k. at + lowSide w + k) (w / 2) l l₁
+samples-parted s from at w p = record { size = p .size; first = p .first; second = λ k h. p .second k h ∙ ap (λ (i : ℕ). pos (getD s i 0)) (omega arith); off = p .off }
 
 -- ---- row after row
 pub source-of : (h i : ℕ) {y : ℕ} → (i < h / 2 → y ≡ 2 * i) → (h / 2 ≤ i → y ≡ 2 * (i - h / 2) + 1) → y ≡ source h i
@@ -95,27 +94,24 @@ pub record RowsIn (k : Kernel) (s : List ℕ) (w h i : ℕ) (l l′ : List ℤ) 
   pub stored : (y x : ℕ) → y < i → x < w → getD l′ (y * w + x) (pos 0) ≡ forward k w (pictured w s (source h y)) x
 
 -- a row of the picture, and its places
-pub row-within : (r w y : ℕ) (s : List ℕ) → AllWithin r w (pictured w s y) → AllWithin r (2 * (w / 2)) (λ x. pos (getD s (y * w + x) 0))
+pub row-within : (r w y : ℕ) (s : List ℕ) → AllWithin r w (pictured w s y) → AllWithin r w (λ x. pos (getD s (y * w + x) 0))
 row-within r w y s all x h = let t = all x (omega arith) in rw (cell 0 w s y x (omega arith)) at t
 
-pub row-ends : (w h y : ℕ) → 0 < w → y < h → y * w + 2 * (w / 2) ≤ h * w
+pub row-ends : (w h y : ℕ) → 0 < w → y < h → y * w + w ≤ h * w
 row-ends w h y some lt = omega (arith, digits-lt {q = y} {m = h} {r = w - 1} {c = w} lt (omega arith))
 
 pub rows-in-none : (k : Kernel) (s : List ℕ) (w h : ℕ) (l : List ℤ) → RowsIn k s w h 0 l l
 rows-in-none k s w h l = record { count = omega arith; size = refl; stored = λ y x p q. absurd (omega arith) }
 
 module _ {k : Kernel} {s : List ℕ} {w h i : ℕ} {l l′ : List ℤ} (even : w % 2 ≡ 0) (p : RowsIn k s w h i l l′) where
-  pub rows-in-more : {l″ : List ℤ} → i < h → Written (forward k (2 * (w / 2)) (λ x. pos (getD s (source h i * w + x) 0))) (i * w) (2 * (w / 2)) l′ l″ → RowsIn k s w h (i + 1) l l″
-  rows-in-more {l″} lt f =
-      let e : 2 * (w / 2) ≡ w = omega arith in
-      let g : Written (forward k w (λ x. pos (getD s (source h i * w + x) 0))) (i * w) w l′ l″ = subst (λ (n : ℕ). Written (forward k n (λ x. pos (getD s (source h i * w + x) 0))) (i * w) n l′ l″) e f in
-      record {
-        count = omega arith;
-        size = g .size ∙ p .size;
-        stored = λ y x a b. by-lt y i
-            (λ old. g .below (y * w + x) (digits-lt {q = y} {m = i} {r = x} {c = w} old b) ∙ p .stored y x old b)
-            (λ new. let z : y ≡ i = omega arith in rw z (g .on x b ∙ forward-local k w _ _ even (λ v q. sym (ap pos (cell 0 w s (source h i) v q))) x b));
-      }
+  pub rows-in-more : {l″ : List ℤ} → i < h → Written (forward k w (λ x. pos (getD s (source h i * w + x) 0))) (i * w) w l′ l″ → RowsIn k s w h (i + 1) l l″
+  rows-in-more {l″} lt g = record {
+    count = omega arith;
+    size = g .size ∙ p .size;
+    stored = λ y x a b. by-lt y i
+        (λ old. g .below (y * w + x) (digits-lt {q = y} {m = i} {r = x} {c = w} old b) ∙ p .stored y x old b)
+        (λ new. let z : y ≡ i = omega arith in rw z (g .on x b ∙ forward-local k w _ _ even (λ v q. sym (ap pos (cell 0 w s (source h i) v q))) x b));
+  }
 
 -- all rows
 pub rows-in-all : (k : Kernel) (s : List ℕ) (w h : ℕ) (l l′ : List ℤ) → w % 2 ≡ 0 → h % 2 ≡ 0 → length l ≡ h * w → length s ≡ h * w → RowsIn k s w h h l l′

@@ -131,22 +131,21 @@ module _ {k : Kernel} {W S w h e b q f : ℕ} (p u l l′ : List ℤ) (z : Area 
       (λ right. t .low i x a n right lt ∙ sym (level-right W S w h p u i x right (omega (arith, z .wide))))
   placed-new top true i x a n lt = t .high i x a n lt ∙ sym (level-below W S w h p u (h / 2 + i) x (omega arith) (omega (arith, z .wide)))
 
--- ---- v rows of each part, from pair n on
-pub parts-at : {S w h size : ℕ} (n v : ℕ) → Area S w h size → 0 < v → n + v ≤ h / 2 → Parts (at S false n) (at S true n) (2 * S) v w size
-parts-at {S} {w} {h} {size} n v z some top = record {
-  some = some;
-  few = omega (arith, z .h-most);
+-- ---- p rows of lows and r rows of highs, from pair n on
+pub parts-at : {S w h size : ℕ} (n p r : ℕ) → Area S w h size → n + p ≤ h / 2 → n + r ≤ h / 2 → Parts (at S false n) (at S true n) (2 * S) p r w size
+parts-at {S} {w} {h} {size} n p r z low high = record {
+  few = (omega (arith, z .h-most), omega (arith, z .h-most));
   lines = z .some-w;
   wide = omega (arith, z .wide);
-  first = record { place = λ i j a c. inside false i j a c };
-  second = record { place = λ i j a c. inside true i j a c };
+  first = record { place = λ i j a c. inside false i j (omega arith) c };
+  second = record { place = λ i j a c. inside true i j (omega arith) c };
   apart = λ i j i′ j′ a c a′ c′ o. omega (arith, row-of S (2 * (n + i) + 0) (2 * (n + i′) + 1) j j′ (omega (arith, z .wide)) (omega (arith, z .wide)) (sym (at-row S false (n + i) j) ∙ sym (at-more S false n i j) ∙ o ∙ at-more S true n i′ j′ ∙ at-row S true (n + i′) j′));
 }
   where
     in-row : (y j : ℕ) → y < h → j < w → y * S + j < size
     in-row y j a c = omega (arith, digits-lt {q = y} {m = h} {r = j} {c = S} a (omega (arith, z .wide)), z .fits)
 
-    inside : (c : Bool) (i j : ℕ) → i < v → j < w → at S c n + i * (2 * S) + j < size
+    inside : (c : Bool) (i j : ℕ) → n + i < h / 2 → j < w → at S c n + i * (2 * S) + j < size
     inside false i j a c = omega (arith, at-more S false n i j, at-row S false (n + i) j, in-row (2 * (n + i) + 0) j (omega arith) c)
     inside true i j a c = omega (arith, at-more S true n i j, at-row S true (n + i) j, in-row (2 * (n + i) + 1) j (omega arith) c)
 
@@ -166,11 +165,11 @@ module _ {k : Kernel} {R : Picture ℤ} {m S w n b q f : ℕ} (u l : List ℤ) (
       (λ i a. (begun-row false x i h a, begun-row true x i h a)) (λ i a d. (placed-row false x i h a d, placed-row true x i h a d))
 
   pub rows-begin : ((x : ℕ) → x < w → AllWithin (2 ^ 28) m (λ i. R i x)) → ((x : ℕ) → x < w → AllWithin (2 ^ 24) m (λ i. R (m + i) x))
-      → Begins k (at S false n) (at S true n) (2 * S) (q - n) w (b - n) (f - n) l
+      → Begins k (at S false n) (at S true n) (2 * S) (q - n) (q - n) w (b - n) (f - n) l
   rows-begin lows highs = begins (at S false n) (at S true n) (2 * S) (q - n) w (b - n) (f - n) l m n (λ x i. R i x) (λ x i. R (m + i) x) (omega arith) (omega arith) lows highs
       (λ i x a d h. (placed-row false x i h a (omega arith), placed-row true x i h a (omega arith))) k rows-hold
 
-  module _ {l′ : List ℤ} (back-far : b < f → n ≤ b - 2) (ahead : min (f + 2) m ≤ q) (t : Both (begunFirst k (q - n)) (begunSecond k (q - n)) (at S false n) (at S true n) (2 * S) w (b - n) (f - n) l l′) where
+  module _ {l′ : List ℤ} (back-far : b < f → n ≤ b - 2) (ahead : min (f + 2) m ≤ q) (t : Both (begunFirst k (q - n)) (begunSecond k (q - n)) (at S false n) (at S true n) (2 * S) w (b - n) (f - n) (f - n) l l′) where
     pub begun-changed : Changed S w b f l l′
     begun-changed = record {
       size = t .size;

@@ -17,6 +17,7 @@ use Rattle.line.specs.Transform.{back}
 use Rattle.grid.specs.Picture.{turned, colPass}
 use Rattle.lifting.specs.Parts.{Bounded, Both}
 use Rattle.lifting.specs.Lines.{begunFirst, begunSecond, Begins}
+use Rattle.lifting.proofs.Rows.{bounded-fewer}
 use Rattle.passes.specs.Passes.{Takes, Area}
 use Rattle.passes.specs.Pairs.{endedRow, PairBack, PairsPlaced}
 use Rattle.passes.specs.Levels.{levelOf}
@@ -79,11 +80,11 @@ module _ (k : Kernel) (W S w h : ℕ) (p u : List ℤ) (y : Area W w h (length p
     after-place = let a = ahead-more lt s x v in
         place-more (z .wide) r (s .near) (s .order) (more-placed lt s x v) (a .top) (placed-changed p u l l₁ y (z .wide) r t) (placed-new p u l l₁ y (z .wide) r t (a .top))
 
-    pub begin-asks : Begins k (at S false n) (at S true n) (2 * S) (g - n) w (b - n) (f - n) l₁
+    pub begin-asks : Begins k (at S false n) (at S true n) (2 * S) (g - n) (g - n) w (b - n) (f - n) l₁
     begin-asks = let a = ahead-more lt s x v in
         rows-begin u l₁ (s .near) (more-begun lt s x v) (a .order) (a .top) after-place (λ j h. cols j h .takes .0) (λ j h. cols j h .takes .1)
 
-    module _ {l₂ : List ℤ} (t₂ : Both (begunFirst k (g - n)) (begunSecond k (g - n)) (at S false n) (at S true n) (2 * S) w (b - n) (f - n) l₁ l₂) where
+    module _ {l₂ : List ℤ} (t₂ : Both (begunFirst k (g - n)) (begunSecond k (g - n)) (at S false n) (at S true n) (2 * S) w (b - n) (f - n) (f - n) l₁ l₂) where
       after-begin : Rolled k (levelOf W S w h p u) (h / 2) S w u n f g l₂
       after-begin = let a = ahead-more lt s x v in let bf = more-begun lt s x v in let far = far-back lt s x v in let near = begin-ahead lt s x v in
           begin-more (z .wide) after-place (s .near) bf (a .order) (a .top)
@@ -92,11 +93,11 @@ module _ (k : Kernel) (W S w h : ℕ) (p u : List ℤ) (y : Area W w h (length p
       some : n < f
       some = omega (arith, ahead-more lt s x v .near)
 
-      pub end-asks : Bounded (2 ^ 29) (at S false n) (2 * S) (f - n) w l₂ × Bounded (2 ^ 29) (at S true n) (2 * S) (f - n) w l₂
+      pub end-asks : Bounded (2 ^ 29) (at S false n) (2 * S) (f - n) w l₂ × Bounded (2 ^ 29) (at S true n) (2 * S) 1 w l₂
           × Takes true w (endedRow false k (f - n) (at S false n) S l₂) × Takes true w (endedRow true k (f - n) (at S false n) S l₂)
       end-asks = let a = ahead-more lt s x v in let near = end-ahead lt s x v in let R = levelOf W S w h p u in (
         lows-near u l₂ some (a .order) (a .top) near after-begin (λ j h. cols j h .takes .0) (λ j h. cols j h .takes .1),
-        highs-near u l₂ some (a .order) (a .top) near after-begin (λ j h. cols j h .takes .0) (λ j h. cols j h .takes .1),
+        bounded-fewer 1 (highs-near u l₂ some (a .order) (a .top) near after-begin (λ j h. cols j h .takes .0) (λ j h. cols j h .takes .1)) (omega arith),
         ended-takes w h k R (z .even-h) (z .even-w) false n lt (ended-is u l₂ some (a .order) (a .top) near after-begin false) rows,
         ended-takes w h k R (z .even-h) (z .even-w) true n lt (ended-is u l₂ some (a .order) (a .top) near after-begin true) rows,
       )

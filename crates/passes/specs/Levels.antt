@@ -8,17 +8,17 @@
 use mathlib.Core.Path.{_≡_}
 use mathlib.Core.Bool.{_&&_}
 use mathlib.Core.List.{List}
-use Prim.Native.Nat.{ℕ, _+_, _*_, _/_, _<_}
+use Prim.Native.Nat.{ℕ, _+_, _*_, _<_}
 use lib.Dec.{ltb}
 use lib.IntN.{ℤ, pos}
 use lib.ListN.{length}
 use Rattle.kernel.specs.declared.Kernel.{Kernel}
 use Rattle.line.specs.Cells.{cell, choose}
 use Rattle.line.specs.Transform.{back}
-use Rattle.grid.specs.Picture.{Picture, rowPass, colPass, picture}
+use Rattle.grid.specs.Picture.{Picture, rowPass, colPass, lowSide, picture}
 
 unfoldable pub levelOf : ℕ → ℕ → ℕ → ℕ → List ℤ → List ℤ → Picture ℤ
-levelOf W S w h p u y x = choose (ltb y (h / 2) && ltb x (w / 2)) (cell u (2 * y * S + x)) (picture (pos 0) W p y x)
+levelOf W S w h p u y x = choose (ltb y (lowSide h) && ltb x (lowSide w)) (cell u (2 * y * S + x)) (picture (pos 0) W p y x)
 
 pub record LevelBack (k : Kernel) (W S w h : ℕ) (p u u′ : List ℤ) : Type 0 where
   pub size : length u′ ≡ length u

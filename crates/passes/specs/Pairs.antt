@@ -1,20 +1,21 @@
 -- Pairs of rows, a low one and the high one behind it, that the way back of a level places and ends.
 --
 --   PairsPlaced W S w m a b p u u′
---                               == u′ is u with pairs a up to b of m from the plane p of rows of W: the right part of the low row, and the high row
---   endedRow high k M s t l     == the row at s, or the one t behind it, after the last step of its columns, of which M pairs are left
+--                               == u′ is u with pairs a up to b from the plane p of rows of W, with m rows of lows: the right part of the low row, and the high row
+--   endedRow high k M s t l     == the row at s, or the one t behind it, after the last step of its columns, of which M lows are left
 --   PairBack k M s t w l l′     == l′ is l with both rows of w numbers after that taken back
 --
 -- Assumes nothing: these are definitions.
 use mathlib.Core.Path.{_≡_}
 use mathlib.Core.Bool.{Bool, true, false}
 use mathlib.Core.List.{List}
-use Prim.Native.Nat.{ℕ, _+_, _*_, _/_, _<_, _≤_}
+use Prim.Native.Nat.{ℕ, _+_, _*_, _<_, _≤_}
 use lib.IntN.{ℤ}
 use lib.ListN.{length}
 use Rattle.kernel.specs.declared.Kernel.{Kernel}
 use Rattle.line.specs.Cells.{Line, cell}
 use Rattle.line.specs.Transform.{back}
+use Rattle.grid.specs.Picture.{lowSide}
 use Rattle.lifting.specs.Parts.{lane}
 use Rattle.lifting.specs.Lines.{endedFirst, endedSecond}
 
@@ -30,7 +31,7 @@ pub record PairBack (k : Kernel) (M s t w : ℕ) (l l′ : List ℤ) : Type 0 wh
 
 pub record PairsPlaced (W S w m a b : ℕ) (p u u′ : List ℤ) : Type 0 where
   pub size : length u′ ≡ length u
-  pub low : (i x : ℕ) → a ≤ i → i < b → w / 2 ≤ x → x < w → cell u′ (2 * i * S + x) ≡ cell p (i * W + x)
+  pub low : (i x : ℕ) → a ≤ i → i < b → lowSide w ≤ x → x < w → cell u′ (2 * i * S + x) ≡ cell p (i * W + x)
   pub high : (i x : ℕ) → a ≤ i → i < b → x < w → cell u′ (2 * i * S + S + x) ≡ cell p ((m + i) * W + x)
-  pub off : (j : ℕ) → ((i x : ℕ) → a ≤ i → i < b → w / 2 ≤ x → x < w → j ≡ 2 * i * S + x → ⊥) → ((i x : ℕ) → a ≤ i → i < b → x < w → j ≡ 2 * i * S + S + x → ⊥)
+  pub off : (j : ℕ) → ((i x : ℕ) → a ≤ i → i < b → lowSide w ≤ x → x < w → j ≡ 2 * i * S + x → ⊥) → ((i x : ℕ) → a ≤ i → i < b → x < w → j ≡ 2 * i * S + S + x → ⊥)
       → cell u′ j ≡ cell u j

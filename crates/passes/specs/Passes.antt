@@ -15,7 +15,7 @@ use Rattle.kernel.specs.declared.Kernel.{Kernel}
 use Rattle.line.specs.Cells.{Line, behind}
 use Rattle.line.specs.Inner.{AllWithin}
 use Rattle.line.specs.Transform.{forward, back}
-use Rattle.grid.specs.Picture.{Picture, Transform, picture}
+use Rattle.grid.specs.Picture.{Picture, Transform, lowSide, picture}
 
 abbrev pub lineTransform : Bool → Kernel → Transform ℤ
 lineTransform false k = forward k
@@ -26,7 +26,7 @@ pictured W s y x = pos (picture 0 W s y x)
 
 abbrev pub takesOf : Bool → ℕ → Line ℤ → Type 0
 takesOf false w X = AllWithin (5 * 2 ^ 22) w X
-takesOf true w X = AllWithin (2 ^ 28) (w / 2) X × AllWithin (2 ^ 24) (w / 2) (behind (w / 2) X)
+takesOf true w X = AllWithin (2 ^ 28) (lowSide w) X × AllWithin (2 ^ 24) (w / 2) (behind (lowSide w) X)
 
 pub record Takes (undo : Bool) (w : ℕ) (X : Line ℤ) : Type 0 where
   pub takes : takesOf undo w X

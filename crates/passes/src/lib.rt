@@ -19,21 +19,23 @@ use kernel::Kernel;
 // How many numbers of working memory a strip of columns takes.
 pub const STRIP: usize = 32768;
 
-// Transforms, in place, a row of 2m numbers from `at` on, or takes it back, through working memory q.
-fn row(kernel: Kernel, undo: bool, l: &mut [i32], q: &mut [i32], at: usize, m: usize)
-    requires { ⌜ (0 < m) × (m < 2 ^ 32) × (2 * m ≤ length (now q)) ⌝ }
-    requires { ⌜ InBuffer (now l) at 1 (2 * m) 1 ⌝ }
-    requires { ⌜ Takes undo (2 * m) (strided (pos 0) (now l) (at + 0) 1) ⌝ }
-    ensures { λ _. ⌜ Lines (lineTransform undo kernel) (pos 0) at 1 (2 * m) 1 (now (l .entry)) (now (l .exit)) ⌝ }
+// Transforms, in place, a row of w numbers from `at` on, or takes it back, through working memory q.
+fn row(kernel: Kernel, undo: bool, l: &mut [i32], q: &mut [i32], at: usize, w: usize)
+    requires { ⌜ (0 < w) × (w % 2 ≡ 0) × (w < 2 ^ 32) × (w ≤ length (now q)) ⌝ }
+    requires { ⌜ InBuffer (now l) at 1 w 1 ⌝ }
+    requires { ⌜ Takes undo w (strided (pos 0) (now l) (at + 0) 1) ⌝ }
+    ensures { λ _. ⌜ Lines (lineTransform undo kernel) (pos 0) at 1 w 1 (now (l .entry)) (now (l .exit)) ⌝ }
 {
+    let highs = w / 2;
+    let lows = w - highs;
     if undo {
-        transfer::numbers::copy(l, q, at, 0, 2 * m);
-        lifting::back(kernel, q, 0, m, 1, m, 1);
-        transfer::numbers::weave(q, l, 0, m, at, m);
+        transfer::numbers::copy(l, q, at, 0, w);
+        lifting::back(kernel, q, 0, lows, 1, lows, highs, 1);
+        transfer::numbers::weave(q, l, 0, lows, at, highs);
     } else {
-        transfer::numbers::part(l, q, at, 0, m, m);
-        lifting::forward(kernel, q, 0, m, 1, m, 1);
-        transfer::numbers::copy(q, l, 0, at, 2 * m);
+        transfer::numbers::part(l, q, at, 0, lows, highs);
+        lifting::forward(kernel, q, 0, lows, 1, lows, highs, 1);
+        transfer::numbers::copy(q, l, 0, at, w);
     }
 }
 
@@ -45,30 +47,32 @@ pub fn row_pass(kernel: Kernel, l: &mut [i32], q: &mut [i32], stride: usize, w: 
     ensures { λ _. ⌜ picture (pos 0) stride (now (l .exit)) ≡ rowPass (forward kernel) w h (picture (pos 0) stride (now (l .entry))) ⌝ }
 {
     for y in 0..h {
-        row(kernel, false, l, q, y * stride, w / 2);
+        row(kernel, false, l, q, y * stride, w);
     }
 }
 
-// Transforms `lanes` columns of 2m numbers from column x on: their evens and odds are taken to q, and their lows and highs put back.
+// Transforms `lanes` columns of h numbers from column x on: their evens and odds are taken to q, and their lows and highs put back.
 fn strip(
     kernel: Kernel,
     l: &mut [i32],
     q: &mut [i32],
     x: usize,
     stride: usize,
-    m: usize,
+    h: usize,
     lanes: usize,
 )
-    requires { ⌜ (0 < m) × (m < 2 ^ 32) × (2 * m * lanes ≤ length (now q)) ⌝ }
-    requires { ⌜ InBuffer (now l) x stride (2 * m) lanes ⌝ }
-    requires { ⌜ ((j : ℕ) → j < lanes → Takes false (2 * m) (strided (pos 0) (now l) (x + j) stride)) ⌝ }
-    ensures { λ _. ⌜ Lines (lineTransform false kernel) (pos 0) x stride (2 * m) lanes (now (l .entry)) (now (l .exit)) ⌝ }
+    requires { ⌜ (0 < h) × (h % 2 ≡ 0) × (h < 2 ^ 32) × (h * lanes ≤ length (now q)) ⌝ }
+    requires { ⌜ InBuffer (now l) x stride h lanes ⌝ }
+    requires { ⌜ ((j : ℕ) → j < lanes → Takes false h (strided (pos 0) (now l) (x + j) stride)) ⌝ }
+    ensures { λ _. ⌜ Lines (lineTransform false kernel) (pos 0) x stride h lanes (now (l .entry)) (now (l .exit)) ⌝ }
 {
-    let odds = m * lanes;
-    transfer::numbers::copy_rows(l, q, x, 2 * stride, 0, lanes, m, lanes);
-    transfer::numbers::copy_rows(l, q, x + stride, 2 * stride, odds, lanes, m, lanes);
-    lifting::forward(kernel, q, 0, odds, lanes, m, lanes);
-    transfer::numbers::copy_rows(q, l, 0, lanes, x, stride, 2 * m, lanes);
+    let highs = h / 2;
+    let lows = h - highs;
+    let odds = lows * lanes;
+    transfer::numbers::copy_rows(l, q, x, 2 * stride, 0, lanes, lows, lanes);
+    transfer::numbers::copy_rows(l, q, x + stride, 2 * stride, odds, lanes, highs, lanes);
+    lifting::forward(kernel, q, 0, odds, lanes, lows, highs, lanes);
+    transfer::numbers::copy_rows(q, l, 0, lanes, x, stride, h, lanes);
 }
 
 // The column pass over the same area, forward, a strip of columns at a time: as many as working memory holds.
@@ -82,7 +86,7 @@ pub fn col_pass(kernel: Kernel, l: &mut [i32], q: &mut [i32], stride: usize, w: 
     let mut x: usize = 0;
     while x < w {
         let lanes = whole::least(most, w - x);
-        strip(kernel, l, q, x, stride, h / 2, lanes);
+        strip(kernel, l, q, x, stride, h, lanes);
         x += lanes;
     }
 }
@@ -95,7 +99,7 @@ pub fn columns(kernel: Kernel, l: &mut [i32], stride: usize, w: usize, h: usize)
 {
     let highs = h / 2;
     let lows = h - highs;
-    lifting::forward(kernel, l, 0, lows * stride, stride, highs, w);
+    lifting::forward(kernel, l, 0, lows * stride, stride, lows, highs, w);
 }
 
 // Of a level's coefficients, from the plane: the right part of low row n to row 2n, and high row n, behind all low rows, to row 2n + 1, for n from
@@ -140,26 +144,26 @@ fn place_pairs(
     );
 }
 
-// Of the m pairs of rows from `at` on, the high row behind the low one: ends the columns of the first pair, and takes its two rows back.
+// Of the `lows` rows of lows from `at` on, a row of highs behind each: ends the columns of the first pair of rows, and takes both rows back.
 fn pair_back(
     kernel: Kernel,
     l: &mut [i32],
     q: &mut [i32],
     at: usize,
     stride: usize,
-    m: usize,
+    lows: usize,
     w: usize,
 )
-    requires { ⌜ Parts at (at + stride) (2 * stride) m w (length (now l)) ⌝ }
+    requires { ⌜ (0 < lows) × Parts at (at + stride) (2 * stride) lows 1 w (length (now l)) ⌝ }
     requires { ⌜ (w % 2 ≡ 0) × (w ≤ 4096) × (w ≤ length (now q)) × (w ≤ stride) ⌝ }
-    requires { ⌜ Bounded (2 ^ 29) at (2 * stride) m w (now l) ⌝ }
-    requires { ⌜ Bounded (2 ^ 29) (at + stride) (2 * stride) m w (now l) ⌝ }
-    requires { ⌜ Takes true w (endedRow false kernel m at stride (now l)) × Takes true w (endedRow true kernel m at stride (now l)) ⌝ }
-    ensures { λ _. ⌜ PairBack kernel m at stride w (now (l .entry)) (now (l .exit)) ⌝ }
+    requires { ⌜ Bounded (2 ^ 29) at (2 * stride) lows w (now l) ⌝ }
+    requires { ⌜ Bounded (2 ^ 29) (at + stride) (2 * stride) 1 w (now l) ⌝ }
+    requires { ⌜ Takes true w (endedRow false kernel lows at stride (now l)) × Takes true w (endedRow true kernel lows at stride (now l)) ⌝ }
+    ensures { λ _. ⌜ PairBack kernel lows at stride w (now (l .entry)) (now (l .exit)) ⌝ }
 {
-    lifting::end_row(kernel, l, at, at + stride, 2 * stride, m, w);
-    row(kernel, true, l, q, at, w / 2);
-    row(kernel, true, l, q, at + stride, w / 2);
+    lifting::end_row(kernel, l, at, at + stride, 2 * stride, lows, w);
+    row(kernel, true, l, q, at, w);
+    row(kernel, true, l, q, at + stride, w);
 }
 
 // A level's way back, from the plane and from what every other row of l holds of the levels below. Pairs of rows are placed, two pairs behind
@@ -198,6 +202,7 @@ pub fn level_back(
             at + stride,
             2 * stride,
             to_place - n,
+            to_place - n,
             w,
             begun - n,
             to_begin - n,
@@ -208,22 +213,25 @@ pub fn level_back(
     }
 }
 
-// Which row comes to row i where the odd rows stand behind the m even ones.
-fn source_row(m: usize, i: usize) -> usize
-    requires { ⌜ (m < 2 ^ 32) × (i < 2 ^ 32) ⌝ }
-    ensures { λ r. ⌜ ((i < m → r ≡ 2 * i) × (m ≤ i → r ≡ 2 * (i - m) + 1)) ⌝ }
+// Which row comes to row i where the odd rows stand behind the even ones, which are as many as the lows.
+fn source_row(lows: usize, i: usize) -> usize
+    requires { ⌜ (lows < 2 ^ 32) × (i < 2 ^ 32) ⌝ }
+    ensures { λ r. ⌜ ((i < lows → r ≡ 2 * i) × (lows ≤ i → r ≡ 2 * (i - lows) + 1)) ⌝ }
 {
-    if i < m { 2 * i } else { 2 * (i - m) + 1 }
+    if i < lows { 2 * i } else { 2 * (i - lows) + 1 }
 }
 
-// Transforms a row of 2m samples from `from` on, and stores it from `at` on.
-fn row_in(kernel: Kernel, samples: &[u16], l: &mut [i32], from: usize, at: usize, m: usize)
-    requires { ⌜ (0 < m) × (m < 2 ^ 32) × (at + 2 * m ≤ length (now l)) × (from + 2 * m ≤ length (now samples)) ⌝ }
-    requires { ⌜ AllWithin (5 * 2 ^ 22) (2 * m) (λ i. pos (getD (now samples) (from + i) 0)) ⌝ }
-    ensures { λ _. ⌜ Written (forward kernel (2 * m) (λ i. pos (getD (now (samples .entry)) (from + i) 0))) at (2 * m) (now (l .entry)) (now (l .exit)) ⌝ }
+// Transforms a row of w samples from `from` on, and stores it from `at` on.
+fn row_in(kernel: Kernel, samples: &[u16], l: &mut [i32], from: usize, at: usize, w: usize)
+    requires { ⌜ (0 < w) × (w % 2 ≡ 0) × (w < 2 ^ 32) ⌝ }
+    requires { ⌜ (at + w ≤ length (now l)) × (from + w ≤ length (now samples)) ⌝ }
+    requires { ⌜ AllWithin (5 * 2 ^ 22) w (λ i. pos (getD (now samples) (from + i) 0)) ⌝ }
+    ensures { λ _. ⌜ Written (forward kernel w (λ i. pos (getD (now (samples .entry)) (from + i) 0))) at w (now (l .entry)) (now (l .exit)) ⌝ }
 {
-    transfer::numbers::part_samples(samples, l, from, at, at + m, m);
-    lifting::forward(kernel, l, at, at + m, 1, m, 1);
+    let highs = w / 2;
+    let lows = w - highs;
+    transfer::numbers::part_samples(samples, l, from, at, at + lows, highs);
+    lifting::forward(kernel, l, at, at + lows, 1, lows, highs, 1);
 }
 
 // The row pass over a picture of w by h samples, each row stored where it ends: the even rows in front, the odd ones behind.
@@ -235,6 +243,6 @@ pub fn rows_in(kernel: Kernel, samples: &[u16], l: &mut [i32], w: usize, h: usiz
 {
     for i in 0..h {
         let y = source_row(h - h / 2, i);
-        row_in(kernel, samples, l, y * w, i * w, w / 2);
+        row_in(kernel, samples, l, y * w, i * w, w);
     }
 }

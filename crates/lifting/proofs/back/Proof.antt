@@ -9,7 +9,7 @@ pub back-spec : {M : Type 1} → statement M
 back-spec =
     tie.close (tie.spec
     (λ c κs. search needs)
-    (λ c κs. let s = c .before .before .before .before in let k = s .args .kernel in let x = s .pre .1 .0 in let y = s .pre .1 .1 in let f = c .before .before .begin-all .ensures in
-    (parts-as (s .pre .0) (f .size), (begun-lows k f x y, begun-highs k f x y)))
+    (λ c κs. let s = c .before .before .before .before in let k = s .args .kernel in let e = s .pre .0 .0 in let x = rw e at (s .pre .1 .1 .0) in let y = s .pre .1 .1 .1 in let f = rw e at (c .before .before .begin-all .ensures) in
+    (s .pre .0, (parts-as (s .pre .1 .0) (f .size), rw e (begun-lows k f x y, begun-highs k f x y))))
     (λ c. search needs)
-    (λ c. both-steps (c .before .before .before .before .before .before .args .kernel) (c .before .before .before .before .begin-all .ensures) (c .before .end-all .ensures)))
+    (λ c. let s = c .before .before .before .before .before .before in let e = s .pre .0 .0 in rw e (both-steps (s .args .kernel) (rw e at (c .before .before .before .before .begin-all .ensures)) (rw e at (c .before .end-all .ensures)))))

@@ -12,8 +12,8 @@ use Rattle.lifting.proofs.forward_five_three.Tie as tie
 pub forward-five-three-spec : {M : Type 1} → statement M
 forward-five-three-spec =
     tie.close (tie.spec
-    (λ c κs. let s = c .before in let x = s .pre .1 .0 in let y = s .pre .1 .1 in (parts-swap (s .pre .0), (bounded-more x (omega arith), lift-fit High false y x tt)))
-    (λ c κs. let s = c .before .before .before .before in let x = s .pre .1 .0 in let y = s .pre .1 .1 in let f = c .before .before .lift .ensures in let d = lift-bounded High false y x f in
-    (parts-as (s .pre .0) (f .rows .size), (bounded-more d (omega arith), lift-fit Low true (bounded-other (parts-swap (s .pre .0)) (omega arith) f x) d tt)))
+    (λ c κs. let s = c .before in let x = s .pre .1 .1 .0 in let y = s .pre .1 .1 .1 in (omega (arith, s .pre .0), (parts-swap (s .pre .1 .0), (bounded-more x (omega arith), lift-fit High false (omega (arith, s .pre .0)) y x tt))))
+    (λ c κs. let s = c .before .before .before .before in let g = s .pre .1 .0 in let x = s .pre .1 .1 .0 in let y = s .pre .1 .1 .1 in let f = c .before .before .lift .ensures in let d = lift-bounded High false (omega (arith, s .pre .0)) y x f in
+    (omega (arith, s .pre .0), (parts-as g (f .rows .size), (bounded-more d (omega arith), lift-fit Low true (omega (arith, s .pre .0)) (bounded-other (parts-swap g) (omega arith) f x) d tt))))
     (λ c. search needs)
-    (λ c. forward-five-three (c .before .before .before .before .before .before .pre .0) (c .before .before .before .before .lift .ensures) (c .before .lift2 .ensures)))
+    (λ c. let s = c .before .before .before .before .before .before in let e = s .pre .0 in rw e (forward-five-three (rw e at (s .pre .1 .0)) (rw e at (c .before .before .before .before .lift .ensures)) (rw e at (c .before .lift2 .ensures)))))

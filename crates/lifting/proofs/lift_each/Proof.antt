@@ -3,7 +3,7 @@ use mathlib.Core.Path.{_≡_}
 use Prim.Native.Nat.{_≤_, _+_, _-_}
 use native.Mathlib.Omega.{arith}
 use Rattle.lifting.specs.Steps.{Lifted}
-use Rattle.lifting.proofs.Rows.{one-row}
+use Rattle.lifting.proofs.Rows.{one-row, parts-fewer}
 use Rattle.lifting.proofs.Lifts.{straight-one, parts-more, bounded-other, lift-none, lift-join, fit-more, fit-part}
 use Rattle.lifting.proofs.lift_each.Statement.{statement}
 use Rattle.lifting.proofs.lift_each.Tie as tie
@@ -20,10 +20,10 @@ lift-each-spec =
     Inv-loop
     μ-loop
     (λ c. (omega arith, omega (arith, c .pre .0), lift-none _ _ _ _ _ _ _ _ _))
-    (λ c κs. let s = c .before .before .before in let a = s .args in let i = c .before .before .loop .inv in let n = c .before .before .loop .n in let g = s .pre .1 .0 in let top : n ≤ a .m = omega (arith, s .pre .0) in (
+    (λ c κs. let s = c .before .before .before in let a = s .args in let i = c .before .before .loop .inv in let n = c .before .before .loop .n in let g = s .pre .1 .0 in let top : n ≤ a .b = omega arith in (
       (omega arith, omega (arith, s .pre .0)),
       (
-        parts-more g top (i .2),
+        parts-fewer (n + 1) (a .m) (parts-more g top (i .2)) (omega arith) (omega arith),
         (
           one-row (a .step) (a .lanes),
           (
@@ -39,6 +39,6 @@ lift-each-spec =
     (λ c. omega arith)
     (λ c. omega arith)
     (λ c. let s = c .before .before .before .before .before in let i = c .before .before .before .before .loop .inv in
-    (omega arith, omega arith, lift-join (s .pre .1 .0) (omega (arith, s .pre .0)) (i .2) _ (omega arith) (omega arith) (omega (arith, s .pre .0)) (c .before .lift-rows .ensures)))
+    (omega arith, omega arith, lift-join (s .pre .1 .0) (omega arith) (i .2) _ (omega arith) (omega arith) (omega (arith, s .pre .0)) (c .before .lift-rows .ensures)))
     (λ c. c .before .loop .inv .2 .rows .size)
     (λ c. let i = c .before .loop .inv in let e : c .before .loop .n ≡ c .before .before .args .b = omega arith in rw e at (i .2)))

@@ -5,13 +5,13 @@ use Prim.Native.Nat.{_≤_, _+_, _-_}
 use native.Mathlib.Omega.{arith}
 use Rattle.lifting.specs.Parts.{Both}
 use Rattle.lifting.specs.Lines.{firsts, seconds}
-use Rattle.lifting.proofs.Rows.{one-row, parts-as}
+use Rattle.lifting.proofs.Rows.{one-row, parts-as, parts-fewer}
 use Rattle.lifting.proofs.Stages.{pair-none, pair-join, pairable-more, pairable-part}
 use Rattle.lifting.proofs.pair_each.Statement.{statement}
 use Rattle.lifting.proofs.pair_each.Tie as tie
 
 abbrev Inv-loop : tie.InvT-loop
-Inv-loop l₀ a b step m lanes join n₀ l n = (n ≤ m) × Both (firsts join) (seconds join) a b step lanes 0 n l₀ l
+Inv-loop l₀ a b step m lanes join n₀ l n = (n ≤ m) × Both (firsts join) (seconds join) a b step lanes 0 n n l₀ l
 
 abbrev μ-loop : tie.MeasureT-loop
 μ-loop l₀ a b step m lanes join n₀ l n = m - n
@@ -23,7 +23,7 @@ pair-each-spec =
     μ-loop
     (λ c. (omega arith, pair-none (c .args .join) _ _ _ _ _ _))
     (λ c κs. let s = c .before .before .before in let a = s .args in let i = c .before .before .loop .inv in let n = c .before .before .loop .n in let g = s .pre .0 in
-    ((omega arith, omega arith), (parts-as g (i .1 .size), (one-row (a .step) (a .lanes), pairable-more (a .join) g (i .0) (i .1) n (n + 1) (omega arith) (omega arith) (pairable-part (a .join) n (n + 1) (s .pre .1) (omega arith) (omega arith))))))
+    (omega arith, (parts-fewer (n + 1) (n + 1) (parts-as g (i .1 .size)) (omega arith) (omega arith), (one-row (a .step) (a .lanes), pairable-more (a .join) g (i .0) (i .1) n (n + 1) (omega arith) (omega arith) (pairable-part (a .join) n (n + 1) (s .pre .1) (omega arith) (omega arith))))))
     (λ c. omega arith)
     (λ c. omega arith)
     (λ c. let s = c .before .before .before .before .before in let i = c .before .before .before .before .loop .inv in (omega arith, pair-join (s .args .join) (s .pre .0) (i .0) (i .1) _ (omega arith) (omega arith) (omega arith) (c .before .pair-rows .ensures)))

@@ -1,5 +1,6 @@
 -- `lifting::pair_rows` makes means and differences of a run of rows, or pairs again. Assumes nothing.
 use mathlib.Core.Bool.{true, false}
+use Prim.Native.Nat.{_+_, _≤_}
 use native.Mathlib.Omega.{arith}
 use borrow.Author.Needs.{needs}
 use Rattle.lifting.proofs.Rows.{run-inside}
@@ -13,16 +14,16 @@ pair-rows-spec =
     tie.close (tie.spec
     (λ c κs. let a = c .args in omega (arith, c .pre .1 .0 .first .place (a .n) 0 (omega (arith, c .pre .0)) (c .pre .1 .0 .lines)))
     (λ c κs. let s = c .before in let a = s .args in omega (arith, s .pre .1 .0 .second .place (a .n) 0 (omega (arith, s .pre .0)) (s .pre .1 .0 .lines)))
-    (λ c. let s = c .before .before .before .before in let a = s .args in let g = s .pre .1 .0 in omega (arith, run-inside (a .n) (a .r) (g .first) (s .pre .1 .1 .0) (s .pre .0 .0) (g .lines) (s .pre .0 .1)))
-    (λ c κs. let s = c .before .before .before .before in let a = s .args in let g = s .pre .1 .0 in let x = s .pre .1 .1 .0 in let le = s .pre .0 .1 in let f = rw (c .before .if1 .taken) at (s .pre .1 .1 .1) in
+    (λ c. let s = c .before .before .before .before in let a = s .args in let g = s .pre .1 .0 in omega (arith, run-inside (a .n) (a .r) (g .first) (s .pre .1 .1 .0) (s .pre .0) (g .lines) (omega arith)))
+    (λ c κs. let s = c .before .before .before .before in let a = s .args in let g = s .pre .1 .0 in let x = s .pre .1 .1 .0 in let le : a .n + a .r ≤ a .n + a .r = omega arith in let f = rw (c .before .if1 .taken) at (s .pre .1 .1 .1) in
     rw (c .before .before .before .row-start .ensures, c .before .before .row-start2 .ensures) (
-      (run-inside (a .n) (a .r) (g .first) x (s .pre .0 .0) (g .lines) le, run-inside (a .n) (a .r) (g .second) x (s .pre .0 .0) (g .lines) le),
+      (run-inside (a .n) (a .r) (g .first) x (s .pre .0) (g .lines) le, run-inside (a .n) (a .r) (g .second) x (s .pre .0) (g .lines) le),
       (runs-apart (a .n) (a .n) (a .r) g x le le, pairs-able true (a .n) x f),
     ))
-    (λ c. let s = c .before .before .before .before in let a = s .args in let g = s .pre .1 .0 in omega (arith, run-inside (a .n) (a .r) (g .first) (s .pre .1 .1 .0) (s .pre .0 .0) (g .lines) (s .pre .0 .1)))
-    (λ c κs. let s = c .before .before .before .before in let a = s .args in let g = s .pre .1 .0 in let x = s .pre .1 .1 .0 in let le = s .pre .0 .1 in let f = rw (c .before .if1 .left) at (s .pre .1 .1 .1) in
+    (λ c. let s = c .before .before .before .before in let a = s .args in let g = s .pre .1 .0 in omega (arith, run-inside (a .n) (a .r) (g .first) (s .pre .1 .1 .0) (s .pre .0) (g .lines) (omega arith)))
+    (λ c κs. let s = c .before .before .before .before in let a = s .args in let g = s .pre .1 .0 in let x = s .pre .1 .1 .0 in let le : a .n + a .r ≤ a .n + a .r = omega arith in let f = rw (c .before .if1 .left) at (s .pre .1 .1 .1) in
     rw (c .before .before .before .row-start .ensures, c .before .before .row-start2 .ensures) (
-      (run-inside (a .n) (a .r) (g .first) x (s .pre .0 .0) (g .lines) le, run-inside (a .n) (a .r) (g .second) x (s .pre .0 .0) (g .lines) le),
+      (run-inside (a .n) (a .r) (g .first) x (s .pre .0) (g .lines) le, run-inside (a .n) (a .r) (g .second) x (s .pre .0) (g .lines) le),
       (runs-apart (a .n) (a .n) (a .r) g x le le, pairs-able false (a .n) x f),
     ))
     (λ c. search needs)

@@ -11,7 +11,7 @@ pub pairs-spec : {M : Type 1} → statement M
 pairs-spec =
     tie.close (tie.spec
     (λ c κs. let s = c .before .before in let a = s .args in let e : 0 + a .m ≡ a .m = omega arith in
-    ((s .pre .0 .some, omega arith), (s .pre .0, (all-rows (a .step) (a .lanes) (a .m) (omega arith), rw e (s .pre .1)))))
+    (s .pre .0, (rw e (s .pre .1 .0), (all-rows (a .step) (a .lanes) (a .m) (omega arith), rw e (s .pre .1 .1)))))
     (λ c κs. search needs)
     (λ c. search needs)
     (λ c. let s = c .before .before .before .before in let e : 0 + s .args .m ≡ s .args .m = omega arith in rw e at (c .before .pair-rows .ensures))

@@ -9,7 +9,7 @@ use lib.IntN.{pos}
 use Rattle.grid.specs.Picture.{turned}
 use Rattle.grid.proofs.Running.{ColsPassed, cols-none, cols-more}
 use Rattle.passes.specs.Passes.{lineTransform}
-use Rattle.passes.proofs.Running.{line-local, area-same, col-in, col-half, some-lanes, col-takes}
+use Rattle.passes.proofs.Running.{line-local, area-same, col-in, col-size, some-lanes, col-takes}
 use Rattle.passes.proofs.col_pass.Statement.{statement}
 use Rattle.passes.proofs.col_pass.Tie as tie
 
@@ -30,7 +30,7 @@ col-pass-spec =
     (λ c κs. search needs)
     (λ c κs. let s = c .before .before .before .before .before in let l = c .before .before .before .before .loop in let i = l .inv in let z = area-same (s .pre .0) (i .1 .same-l) in let n = c .before .before .least in
     let few : n .result ≤ 32768 / s .args .h = omega (arith, n .ensures, i .0) in let some = some-lanes (l .l) z in
-    (col-half (l .l) z (n .result) (omega (arith, s .pre .1 .0, i .1 .same-a)) few, (col-in (l .l) z (l .x) (n .result) (omega (arith, n .ensures, some, i .0)) (omega (arith, n .ensures)), col-takes (s .pre .0) (i .1) (s .pre .1 .1) (n .result) (omega (arith, n .ensures)))))
+    (col-size (l .l) z (n .result) (omega (arith, s .pre .1 .0, i .1 .same-a)) few, (col-in (l .l) z (l .x) (n .result) (omega (arith, n .ensures, some, i .0)) (omega (arith, n .ensures)), col-takes (s .pre .0) (i .1) (s .pre .1 .1) (n .result) (omega (arith, n .ensures)))))
     (λ c. omega (arith, c .before .before .before .before .before .least .ensures))
     (λ c. let n = c .before .before .before .before .before .least in omega (arith, n .ensures, some-lanes (c .before .before .before .before .before .before .before .before .args .l .now) (c .before .before .before .before .before .before .before .before .pre .0), c .before .before .before .before .before .before .before .loop .inv .0))
     (λ c. let s = c .before .before .before .before .before .before .before .before in let i = c .before .before .before .before .before .before .before .loop .inv in let n = c .before .before .before .before .before .least in let k = c .before .before .strip .kept .1 .1 .0 in

@@ -9,7 +9,8 @@ pub columns-spec : {M : Type 1} → statement M
 columns-spec =
     tie.close (tie.spec
     (λ c. omega arith)
-    (λ c. let s = c .before in let g = apart-parts (s .args .l .now) (s .pre .0) in rw (half-left (s .args .h) (s .pre .0 .even-h)) (omega (arith, g .second .place 0 0 (g .some) (g .lines))))
-    (λ c κs. let s = c .before in let l = s .args .l .now in rw (half-left (s .args .h) (s .pre .0 .even-h)) (apart-parts l (s .pre .0), (even-rows l (s .pre .0) (s .pre .1), odd-rows l (s .pre .0) (s .pre .1))))
+    (λ c. let s = c .before in let g = apart-parts (s .args .l .now) (s .pre .0) in rw (half-left (s .args .h) (s .pre .0 .even-h)) (omega (arith, g .second .place 0 0 (omega (arith, s .pre .0 .some-h, s .pre .0 .even-h)) (g .lines))))
+    (λ c κs. let s = c .before in let l = s .args .l .now in let e = half-left (s .args .h) (s .pre .0 .even-h) in
+    ((e, omega (arith, s .pre .0 .some-h, s .pre .0 .even-h)), rw e (apart-parts l (s .pre .0), (even-rows l (s .pre .0) (s .pre .1), odd-rows l (s .pre .0) (s .pre .1)))))
     (λ c. search needs)
     (λ c. let s = c .before .before .before in forward-columns (s .args .l .now) (s .pre .0) (s .args .kernel) _ (rw (half-left (s .args .h) (s .pre .0 .even-h)) at (c .before .forward .ensures))))

@@ -55,15 +55,16 @@ level-back-spec =
     (λ c. let t = (c .before .before .before .before) in omega (arith, places (start t) (turn t .loop .n) (t .before .before .loop-test .taken)))
     (λ c. let t = (c .before .before .before .before) in omega (arith, places (start t) (turn t .loop .n) (t .before .before .loop-test .taken)))
     (λ c. let t = (c .before .before .before .before) in omega (arith, ahead t .order, ahead t .near))
+    (λ c. let t = (c .before .before .before .before) in omega (arith, ahead t .order, ahead t .near))
     (λ c. turn (c .before .before .before .before) .loop .inv .2 .near)
     (λ c. let t = (c .before .before .before .before) in omega (arith, ahead t .near))
     (λ c κs. let t = (c .before .before .before .before) in let s = start t in let a = s .args in let i = turn t .loop in let p = rw (even t) at (c .before .before .place-pairs .ensures) in (
-      (omega (arith, more-begun (t .before .before .loop-test .taken) (i .inv .2) (t .least2 .ensures) (t .before .least .ensures)), omega (arith, ahead t .order)),
-      (parts-as (parts-at (i .n) _ (s .pre .1 .0) (omega (arith, ahead t .order, ahead t .near)) (omega (arith, ahead t .order, ahead t .near, ahead t .top))) (p .size ∙ i .inv .3 .size), begin-asks (a .kernel) (a .width) (a .stride) (a .w) (a .h) (a .plane .now) (a .l .now) (s .pre .0) (s .pre .1 .0) (s .pre .1 .1 .1 .0) (s .pre .1 .1 .1 .1) (t .before .before .loop-test .taken) (i .inv .2) (t .least2 .ensures) (t .before .least .ensures) (i .inv .3) p),
+      (omega (arith, more-begun (t .before .before .loop-test .taken) (i .inv .2) (t .least2 .ensures) (t .before .least .ensures)), omega (arith, ahead t .order), omega (arith, ahead t .order)),
+      (parts-as (parts-at (i .n) _ _ (s .pre .1 .0) (omega (arith, ahead t .order, ahead t .near, ahead t .top)) (omega (arith, ahead t .order, ahead t .near, ahead t .top))) (p .size ∙ i .inv .3 .size), begin-asks (a .kernel) (a .width) (a .stride) (a .w) (a .h) (a .plane .now) (a .l .now) (s .pre .0) (s .pre .1 .0) (s .pre .1 .1 .1 .0) (s .pre .1 .1 .1 .1) (t .before .before .loop-test .taken) (i .inv .2) (t .least2 .ensures) (t .before .least .ensures) (i .inv .3) p),
     ))
     (λ c. let t = (c .before .before .before .before .before .before .before .before) in omega (arith, ahead t .near))
     (λ c κs. let t = (c .before .before .before .before .before .before .before .before) in let s = start t in let a = s .args in let i = turn t .loop in let p = rw (even t) at (c .before .before .before .before .before .before .place-pairs .ensures) in let f = c .before .before .before .begin-rows .ensures in let e = end-asks (a .kernel) (a .width) (a .stride) (a .w) (a .h) (a .plane .now) (a .l .now) (s .pre .0) (s .pre .1 .0) (s .pre .1 .1 .1 .0) (s .pre .1 .1 .1 .1) (t .before .before .loop-test .taken) (i .inv .2) (t .least2 .ensures) (t .before .least .ensures) (i .inv .3) p f in (
-      parts-as (parts-at (i .n) _ (s .pre .1 .0) (omega (arith, ahead t .near)) (omega (arith, ahead t .order, ahead t .near, ahead t .top))) (f .size ∙ p .size ∙ i .inv .3 .size),
+      (omega (arith, ahead t .near), parts-as (parts-at (i .n) _ 1 (s .pre .1 .0) (omega (arith, ahead t .order, ahead t .near, ahead t .top)) (omega arith)) (f .size ∙ p .size ∙ i .inv .3 .size)),
       ((s .pre .0 .even-w, s .pre .0 .w-most, omega (arith, i .inv .0, s .pre .1 .1 .0), s .pre .1 .0 .wide), (e .0, (e .1, (e .2, e .3)))),
     ))
     (λ c. omega (arith, start (c .before .before .before .before .before .before .before .before .before .before .before) .pre .0 .h-most))

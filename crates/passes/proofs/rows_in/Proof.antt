@@ -34,8 +34,11 @@ rows-in-spec =
     (λ c. let s = c .before .before .before .before .before in omega (arith, row-ends (s .args .w) (s .args .h) (c .before .source-row .result) (s .pre .0 .some-w) (inside (c .before)), s .pre .1 .0))
     (λ c. let s = c .before .before .before .before .before in omega (arith, row-ends (s .args .w) (s .args .h) (c .before .before .before .loop .i) (s .pre .0 .some-w) (c .before .before .loop-test .taken), s .pre .1 .0))
     (λ c κs. let s = c .before .before .before .before .before in let z = s .pre .0 in let i = c .before .before .before .loop .inv in let y = c .before .source-row .result in (
-      (omega (arith, z .some-w, z .even-w), omega (arith, z .w-most), omega (arith, row-ends (s .args .w) (s .args .h) (c .before .before .before .loop .i) (z .some-w) (c .before .before .loop-test .taken), s .pre .1 .0, i .size), omega (arith, row-ends (s .args .w) (s .args .h) y (z .some-w) (inside (c .before)), s .pre .1 .0)),
-      row-within (5 * 2 ^ 22) (s .args .w) y (s .args .samples .now) (s .pre .1 .1 y (inside (c .before))),
+      (z .some-w, z .even-w, omega (arith, z .w-most)),
+      (
+        (omega (arith, row-ends (s .args .w) (s .args .h) (c .before .before .before .loop .i) (z .some-w) (c .before .before .loop-test .taken), s .pre .1 .0, i .size), omega (arith, row-ends (s .args .w) (s .args .h) y (z .some-w) (inside (c .before)), s .pre .1 .0)),
+        row-within (5 * 2 ^ 22) (s .args .w) y (s .args .samples .now) (s .pre .1 .1 y (inside (c .before))),
+      ),
     ))
     (λ c. omega arith)
     (λ c. omega arith)
