@@ -85,6 +85,17 @@ module _ (a b t m c d e : ℕ) (l : List ℤ) (M n : ℕ) (A B : ℕ → Line �
   begins kernel.TT h = low-taken h
   begins kernel.FiveThree h = (record { each = λ j k i q. rw (h j k i q) (highs j k (n + i) (omega arith)) }, record { each = λ r j o q k. rw (rows r j o q k .0) (lows j k (n + r) (omega arith)) })
 
+-- so they are where lows and highs are within the bounds of a line
+module _ {a b t p q c : ℕ} {l : List ℤ} (e : ℕ) (x : Bounded (2 ^ 28) a t p c l) (y : Bounded (2 ^ 24) b t q c l) (ep : e ≤ p) (eq : e ≤ q) where
+  low-all : Bounded (2 ^ 28) a t p c l × RowsWithin (2 ^ 24) b t c 0 e l
+  low-all = (x, record { each = λ n j o h k. y .each j k n (omega arith) })
+
+  pub begins-all : (k : Kernel) → Begins k a b t p q c 0 e l
+  begins-all kernel.S = tt
+  begins-all kernel.SPlusP = low-all
+  begins-all kernel.TT = low-all
+  begins-all kernel.FiveThree = (y, record { each = λ n j o h k. x .each j k n (omega arith) })
+
 pub begun-there : (k : Kernel) (M n v r : ℕ) (A B A′ B′ : Line ℤ) → r < v → n + v ≤ M → n ≤ n + r - 2 → min (n + r + 3) M ≤ n + v → Holds k n v A B A′ B′ → A′ r ≡ A (n + r) → B′ r ≡ B (n + r)
     → (begunFirst k v A′ B′ r ≡ begunFirst k M A B (n + r)) × (begunSecond k v A′ B′ r ≡ begunSecond k M A B (n + r))
 unfolding predict update

@@ -134,38 +134,41 @@ fn lift_each(
     }
 }
 
-// A lifting step on all `rows` rows of a part, from the m rows of the other. Where they lie end to end, those whose neighbours the border rule gives
-// go row by row, those between as one run.
+// The same. Where the rows lie end to end, those whose neighbours the border rule gives go one at a time, those between as one run.
 fn lift(
     s: Step,
     l: &mut [i32],
     to: usize,
     from: usize,
     step: usize,
-    rows: usize,
     m: usize,
     lanes: usize,
+    a: usize,
+    b: usize,
     add: bool,
 )
-    requires { ⌜ rows ≤ m ⌝ }
-    requires { ⌜ Parts to from step rows m lanes (length (now l)) ⌝ }
+    requires { ⌜ (a ≤ b) × (b ≤ m) ⌝ }
+    requires { ⌜ Parts to from step b m lanes (length (now l)) ⌝ }
     requires { ⌜ Bounded (tapBound s) from step m lanes (now l) ⌝ }
-    requires { ⌜ Fit s add m lanes 0 rows to from step (now l) ⌝ }
-    ensures { λ _. ⌜ Lifted s add m lanes 0 rows to from step (now (l .entry)) (now (l .exit)) ⌝ }
+    requires { ⌜ Fit s add m lanes a b to from step (now l) ⌝ }
+    ensures { λ _. ⌜ Lifted s add m lanes a b to from step (now (l .entry)) (now (l .exit)) ⌝ }
 {
-    let a = look_back(s);
-    let b = look_ahead(s);
-    if rows <= a + b {
-        lift_each(s, l, to, from, step, m, lanes, 0, rows, add);
+    let back = look_back(s);
+    let ahead = look_ahead(s);
+    let first = whole::most(a, back);
+    let seen = whole::least(m, b + ahead);
+    if seen <= first + ahead {
+        lift_each(s, l, to, from, step, m, lanes, a, b, add);
         return;
     }
     if step != lanes {
-        lift_each(s, l, to, from, step, m, lanes, 0, rows, add);
+        lift_each(s, l, to, from, step, m, lanes, a, b, add);
         return;
     }
-    lift_each(s, l, to, from, step, m, lanes, 0, a, add);
-    lift_rows(s, l, to, from, step, m, lanes, a, rows - a - b, add);
-    lift_each(s, l, to, from, step, m, lanes, rows - b, rows, add);
+    let last = seen - ahead;
+    lift_each(s, l, to, from, step, m, lanes, a, first, add);
+    lift_rows(s, l, to, from, step, m, lanes, first, last - first, add);
+    lift_each(s, l, to, from, step, m, lanes, last, b, add);
 }
 
 // The pairs of r rows from row n on, which lie end to end, become means and differences; or means and differences become pairs.
@@ -237,7 +240,7 @@ fn forward_pairs(
     ensures { λ _. ⌜ Both (firsts false) (predicted s lows) a b step lanes 0 lows highs (now (l .entry)) (now (l .exit)) ⌝ }
 {
     pairs(l, a, b, step, highs, lanes, false);
-    lift(s, l, b, a, step, highs, lows, lanes, false);
+    lift(s, l, b, a, step, lows, lanes, 0, highs, false);
 }
 
 // Kernel 3, forward.
@@ -256,8 +259,8 @@ fn forward_five_three(
     requires { ⌜ Bounded (5 * 2 ^ 22) b step highs lanes (now l) ⌝ }
     ensures { λ _. ⌜ Both (lowsOf FiveThree lows) (highsOf FiveThree lows) a b step lanes 0 lows highs (now (l .entry)) (now (l .exit)) ⌝ }
 {
-    lift(Step::High, l, b, a, step, highs, lows, lanes, false);
-    lift(Step::Low, l, a, b, step, lows, highs, lanes, true);
+    lift(Step::High, l, b, a, step, lows, lanes, 0, highs, false);
+    lift(Step::Low, l, a, b, step, highs, lanes, 0, lows, true);
 }
 
 // The transforms of `lanes` lines, whose evens stand at a and whose odds at b: the lows take the evens' place, the highs the odds'.
@@ -285,8 +288,9 @@ pub fn forward(
     }
 }
 
-// The first step of the way back: what kernels 1 and 2 predict is added to the highs, what kernel 3 adds to the evens is taken off.
-fn begin_all(
+// The first step of the way back, on the rows d up to e: what kernels 1 and 2 predict is added to the highs, what kernel 3 adds to the evens is
+// taken off.
+pub fn begin_rows(
     kernel: Kernel,
     l: &mut [i32],
     a: usize,
@@ -295,23 +299,24 @@ fn begin_all(
     lows: usize,
     highs: usize,
     lanes: usize,
+    d: usize,
+    e: usize,
 )
-    requires { ⌜ lows ≡ highs ⌝ }
+    requires { ⌜ (d ≤ e) × (e ≤ lows) × (e ≤ highs) ⌝ }
     requires { ⌜ Parts a b step lows highs lanes (length (now l)) ⌝ }
-    requires { ⌜ Bounded (2 ^ 28) a step lows lanes (now l) ⌝ }
-    requires { ⌜ Bounded (2 ^ 24) b step highs lanes (now l) ⌝ }
-    ensures { λ _. ⌜ Both (begunFirst kernel highs) (begunSecond kernel lows) a b step lanes 0 lows highs (now (l .entry)) (now (l .exit)) ⌝ }
+    requires { ⌜ Begins kernel a b step lows highs lanes d e (now l) ⌝ }
+    ensures { λ _. ⌜ Both (begunFirst kernel highs) (begunSecond kernel lows) a b step lanes d e e (now (l .entry)) (now (l .exit)) ⌝ }
 {
     match kernel {
         Kernel::S => {}
-        Kernel::SPlusP => lift(Step::SPlusP, l, b, a, step, highs, lows, lanes, true),
-        Kernel::TT => lift(Step::TT, l, b, a, step, highs, lows, lanes, true),
-        Kernel::FiveThree => lift(Step::Low, l, a, b, step, lows, highs, lanes, false),
+        Kernel::SPlusP => lift(Step::SPlusP, l, b, a, step, lows, lanes, d, e, true),
+        Kernel::TT => lift(Step::TT, l, b, a, step, lows, lanes, d, e, true),
+        Kernel::FiveThree => lift(Step::Low, l, a, b, step, highs, lanes, d, e, false),
     }
 }
 
-// The last step.
-fn end_all(
+// The last step, on the first rows of lows and all rows of highs; it looks at the rows of lows behind.
+pub fn end_rows(
     kernel: Kernel,
     l: &mut [i32],
     a: usize,
@@ -321,17 +326,17 @@ fn end_all(
     highs: usize,
     lanes: usize,
 )
-    requires { ⌜ (lows ≡ highs) × (0 < highs) ⌝ }
+    requires { ⌜ (0 < highs) × (highs ≤ lows) ⌝ }
     requires { ⌜ Parts a b step lows highs lanes (length (now l)) ⌝ }
     requires { ⌜ Bounded (2 ^ 29) a step lows lanes (now l) ⌝ }
     requires { ⌜ Bounded (2 ^ 29) b step highs lanes (now l) ⌝ }
-    ensures { λ _. ⌜ Both (endedFirst kernel) (endedSecond kernel lows) a b step lanes 0 lows highs (now (l .entry)) (now (l .exit)) ⌝ }
+    ensures { λ _. ⌜ Both (endedFirst kernel) (endedSecond kernel lows) a b step lanes 0 highs highs (now (l .entry)) (now (l .exit)) ⌝ }
 {
     match kernel {
         Kernel::S => pairs(l, a, b, step, highs, lanes, true),
         Kernel::SPlusP => pairs(l, a, b, step, highs, lanes, true),
         Kernel::TT => pairs(l, a, b, step, highs, lanes, true),
-        Kernel::FiveThree => lift(Step::High, l, b, a, step, highs, lows, lanes, true),
+        Kernel::FiveThree => lift(Step::High, l, b, a, step, lows, lanes, 0, highs, true),
     }
 }
 
@@ -352,56 +357,6 @@ pub fn back(
     requires { ⌜ Bounded (2 ^ 24) b step highs lanes (now l) ⌝ }
     ensures { λ _. ⌜ Both (line.undoneEvens kernel lows) (line.undoneOdds kernel lows) a b step lanes 0 lows highs (now (l .entry)) (now (l .exit)) ⌝ }
 {
-    begin_all(kernel, l, a, b, step, lows, highs, lanes);
-    end_all(kernel, l, a, b, step, lows, highs, lanes);
-}
-
-// The first step on the rows d up to e alone.
-pub fn begin_rows(
-    kernel: Kernel,
-    l: &mut [i32],
-    a: usize,
-    b: usize,
-    step: usize,
-    lows: usize,
-    highs: usize,
-    lanes: usize,
-    d: usize,
-    e: usize,
-)
-    requires { ⌜ (d ≤ e) × (e ≤ lows) × (e ≤ highs) ⌝ }
-    requires { ⌜ Parts a b step lows highs lanes (length (now l)) ⌝ }
-    requires { ⌜ Begins kernel a b step lows highs lanes d e (now l) ⌝ }
-    ensures { λ _. ⌜ Both (begunFirst kernel highs) (begunSecond kernel lows) a b step lanes d e e (now (l .entry)) (now (l .exit)) ⌝ }
-{
-    match kernel {
-        Kernel::S => {}
-        Kernel::SPlusP => lift_each(Step::SPlusP, l, b, a, step, lows, lanes, d, e, true),
-        Kernel::TT => lift_each(Step::TT, l, b, a, step, lows, lanes, d, e, true),
-        Kernel::FiveThree => lift_each(Step::Low, l, a, b, step, highs, lanes, d, e, false),
-    }
-}
-
-// The last step on the first row of each part alone; it looks at the rows of lows behind.
-pub fn end_row(
-    kernel: Kernel,
-    l: &mut [i32],
-    a: usize,
-    b: usize,
-    step: usize,
-    lows: usize,
-    lanes: usize,
-)
-    requires { ⌜ 0 < lows ⌝ }
-    requires { ⌜ Parts a b step lows 1 lanes (length (now l)) ⌝ }
-    requires { ⌜ Bounded (2 ^ 29) a step lows lanes (now l) ⌝ }
-    requires { ⌜ Bounded (2 ^ 29) b step 1 lanes (now l) ⌝ }
-    ensures { λ _. ⌜ Both (endedFirst kernel) (endedSecond kernel lows) a b step lanes 0 1 1 (now (l .entry)) (now (l .exit)) ⌝ }
-{
-    match kernel {
-        Kernel::S => pair_rows(l, a, b, step, lanes, 0, 1, true),
-        Kernel::SPlusP => pair_rows(l, a, b, step, lanes, 0, 1, true),
-        Kernel::TT => pair_rows(l, a, b, step, lanes, 0, 1, true),
-        Kernel::FiveThree => lift_rows(Step::High, l, b, a, step, lows, lanes, 0, 1, true),
-    }
+    begin_rows(kernel, l, a, b, step, lows, highs, lanes, 0, highs);
+    end_rows(kernel, l, a, b, step, lows, highs, lanes);
 }

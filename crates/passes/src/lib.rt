@@ -161,7 +161,7 @@ fn pair_back(
     requires { ⌜ Takes true w (endedRow false kernel lows at stride (now l)) × Takes true w (endedRow true kernel lows at stride (now l)) ⌝ }
     ensures { λ _. ⌜ PairBack kernel lows at stride w (now (l .entry)) (now (l .exit)) ⌝ }
 {
-    lifting::end_row(kernel, l, at, at + stride, 2 * stride, lows, w);
+    lifting::end_rows(kernel, l, at, at + stride, 2 * stride, lows, 1, w);
     row(kernel, true, l, q, at, w);
     row(kernel, true, l, q, at + stride, w);
 }

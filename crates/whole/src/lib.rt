@@ -1,6 +1,6 @@
-// Floor division of signed numbers by 2, 4 and 8, from the language's division of unsigned ones; magnitudes; the smaller of two numbers.
+// Floor division of signed numbers by 2, 4 and 8, from the language's division of unsigned ones; magnitudes; the smaller and the larger of two numbers.
 ghost use mathlib.Core.Path.{_≡_};
-ghost use Prim.Native.Nat.{min};
+ghost use Prim.Native.Nat.{min, max};
 ghost use lib.IntN.{natAbs};
 ghost use Rattle.whole.specs.Floor.{floorDiv};
 
@@ -39,4 +39,11 @@ pub fn least(x: usize, y: usize) -> usize
     ensures { λ r. ⌜ r ≡ min x y ⌝ }
 {
     if x < y { x } else { y }
+}
+
+// The larger.
+pub fn most(x: usize, y: usize) -> usize
+    ensures { λ r. ⌜ r ≡ max x y ⌝ }
+{
+    if x < y { y } else { x }
 }

@@ -1,4 +1,4 @@
--- `lifting::begin_rows` does the first step of the way back on some rows. Assumes nothing.
+-- `lifting::begin_rows` does the first step of the way back on some rows, or on all. Assumes nothing.
 use mathlib.Core.Bool.{true, false}
 use native.Mathlib.Omega.{arith}
 use borrow.Author.Needs.{needs}
@@ -20,8 +20,8 @@ begin-rows-spec =
     (λ c κs. let s = c .before .before .before in let x = rw (c .before .enum-told4 .given .1) at (s .pre .1 .1) in let d = s .pre .0 in ((d .0, d .2), (parts-fewer _ _ (s .pre .1 .0) (d .1) (omega arith), (bounded-more (x .0) (omega arith), rows-fit Low false (d .2) (x .1) (x .0) tt))))
     (λ c. let a = c .before .before .args in rw (c .enum-told .given .1) (both-none (a .a) (a .b) (a .step) (a .lanes) (a .d) (a .e) (a .e) (a .l .now)))
     (λ c. search needs)
-    (λ c. let s = c .before .before .before .before .before in rw (c .before .before .before .enum-told2 .given .1) (rows-second (s .args .d) (s .args .e) (s .args .e) (s .pre .0 .1) (s .pre .0 .2) (s .pre .1 .0) (c .before .lift-each .ensures)))
+    (λ c. let s = c .before .before .before .before .before in rw (c .before .before .before .enum-told2 .given .1) (rows-second (s .args .d) (s .args .e) (s .args .e) (s .pre .0 .1) (s .pre .0 .2) (s .pre .1 .0) (c .before .lift .ensures)))
     (λ c. search needs)
-    (λ c. let s = c .before .before .before .before .before in rw (c .before .before .before .enum-told3 .given .1) (rows-second (s .args .d) (s .args .e) (s .args .e) (s .pre .0 .1) (s .pre .0 .2) (s .pre .1 .0) (c .before .lift-each2 .ensures)))
+    (λ c. let s = c .before .before .before .before .before in rw (c .before .before .before .enum-told3 .given .1) (rows-second (s .args .d) (s .args .e) (s .args .e) (s .pre .0 .1) (s .pre .0 .2) (s .pre .1 .0) (c .before .lift2 .ensures)))
     (λ c. search needs)
-    (λ c. let s = c .before .before .before .before .before in rw (c .before .before .before .enum-told4 .given .1) (rows-first (s .args .d) (s .args .e) (s .args .e) (s .pre .0 .1) (s .pre .0 .2) (s .pre .1 .0) (c .before .lift-each3 .ensures))))
+    (λ c. let s = c .before .before .before .before .before in rw (c .before .before .before .enum-told4 .given .1) (rows-first (s .args .d) (s .args .e) (s .args .e) (s .pre .0 .1) (s .pre .0 .2) (s .pre .1 .0) (c .before .lift3 .ensures))))
