@@ -50,38 +50,38 @@ module _ (at from : ℕ) (l : List ℕ) where
     above = λ i h. getD-set-other l′ _ _ _ 0 (λ e. omega arith) ∙ p .above i (omega arith);
   }
 
--- ---- row a + k of the part from t on joined with row b + k of that from x on, for the rows that both have: a move by a rows down, or by b up
-module _ {F G : ℕ → ℕ → Bool} {t x c m at from n : ℕ} {l l′ : List ℕ} (p : Part F t c m l) (q : Part G x c m l) (s : Joined at from n l l′)
-    (a b : ℕ) (w : (at ≡ t + a * c) × (from ≡ x + b * c) × (n ≡ m * c - (a * c + b * c)) × (min a b ≡ 0) × (a + b ≤ m)) where
-  rows : (n ≡ (m - (a + b)) * c) × (a * c + b * c + n ≡ m * c)
-  rows = let e : m ≡ a + b + (m - (a + b)) = omega arith in omega (arith, ap (λ z. z * c) e, add-mul (a + b) (m - (a + b)) c, add-mul a b c)
+-- ---- row a + k of the part from t on joined with row b + k of that from x on, for the z rows that both have: a move by a rows down, or by b up
+module _ {F G : ℕ → ℕ → Bool} {t x c m r at from n : ℕ} {l l′ : List ℕ} (p : Part F t c m l) (q : Part G x c r l) (s : Joined at from n l l′)
+    (a b z : ℕ) (w : (at ≡ t + a * c) × (from ≡ x + b * c) × (n ≡ z * c) × (min a b ≡ 0) × (z ≡ min (m - a) (r - b)) × (a ≤ m)) where
+  rows : a * c + n ≤ m * c
+  rows = omega (arith, add-mul a z c, mul-le-mul-right {m = a + z} {n = m} c (omega arith))
 
   -- the rows that are joined, and the others
-  met : (r j : ℕ) → a ≤ r → r < m - b → j < c → byte l′ (t + (r * c + j)) ≡ byteOf (F r j || mark m (λ k. G k j) (r + b) a)
-  met r j ge lt i =
-      let k : ℕ = r - a in
-      let er : r ≡ a + k = omega arith in
-      let ex : b + k ≡ r + b - a = omega arith in
-      let u : t + (r * c + j) ≡ at + (k * c + j) = omega (arith, ap (λ z. z * c) er, add-mul a k c) in
-      let v : from + (k * c + j) ≡ x + ((r + b - a) * c + j) = omega (arith, ap (λ z. z * c) ex, add-mul b k c) in
-      let fit : k < m - (a + b) = omega arith in
-      ap (byte l′) u ∙ s .on (k * c + j) (omega (arith, rows, digits-lt fit i))
-      ∙ ap₂ bitOr (ap (byte l) (sym u) ∙ p .on r j (omega arith) i) (ap (byte l) v ∙ q .on (r + b - a) j (omega arith) i)
-      ∙ or-byte (F r j) (G (r + b - a) j) ∙ rw (mark-at m (λ k. G k j) (r + b) a (r + b - a) (omega arith) (omega arith))
+  met : (i j : ℕ) → a ≤ i → i < a + z → j < c → byte l′ (t + (i * c + j)) ≡ byteOf (F i j || mark r (λ k. G k j) (i + b) a)
+  met i j ge lt h =
+      let k : ℕ = i - a in
+      let er : i ≡ a + k = omega arith in
+      let ex : b + k ≡ i + b - a = omega arith in
+      let u : t + (i * c + j) ≡ at + (k * c + j) = omega (arith, ap (λ z. z * c) er, add-mul a k c) in
+      let v : from + (k * c + j) ≡ x + ((i + b - a) * c + j) = omega (arith, ap (λ z. z * c) ex, add-mul b k c) in
+      let fit : k < z = omega arith in
+      ap (byte l′) u ∙ s .on (k * c + j) (omega (arith, digits-lt {q = k} {m = z} {r = j} {c = c} fit h))
+      ∙ ap₂ bitOr (ap (byte l) (sym u) ∙ p .on i j (omega arith) h) (ap (byte l) v ∙ q .on (i + b - a) j (omega arith) h)
+      ∙ or-byte (F i j) (G (i + b - a) j) ∙ rw (mark-at r (λ k. G k j) (i + b) a (i + b - a) (omega arith) (omega arith))
 
-  left : (r j : ℕ) → r < m → j < c → byte l′ (t + (r * c + j)) ≡ byte l (t + (r * c + j)) → mark m (λ k. G k j) (r + b) a ≡ false
-      → byte l′ (t + (r * c + j)) ≡ byteOf (F r j || mark m (λ k. G k j) (r + b) a)
-  left r j h i same none = same ∙ p .on r j h i ∙ rw none (ap byteOf (sym (or-false (F r j))))
+  left : (i j : ℕ) → i < m → j < c → byte l′ (t + (i * c + j)) ≡ byte l (t + (i * c + j)) → mark r (λ k. G k j) (i + b) a ≡ false
+      → byte l′ (t + (i * c + j)) ≡ byteOf (F i j || mark r (λ k. G k j) (i + b) a)
+  left i j h k same none = same ∙ p .on i j h k ∙ rw none (ap byteOf (sym (or-false (F i j))))
 
-  part-join : Part (λ n j. F n j || mark m (λ k. G k j) (n + b) a) t c m l′
+  part-join : Part (λ n j. F n j || mark r (λ k. G k j) (n + b) a) t c m l′
   part-join = record {
-    on = λ r j h i. by-lt r a
-        (λ lt. left r j h i (s .below _ (omega (arith, digits-lt lt i))) (mark-before m (λ k. G k j) (r + b) a (omega arith)))
-        (λ ge. by-lt r (m - b)
-        (λ lt. met r j ge lt i)
-        (λ past. left r j h i
-        (s .above _ (omega (arith, rows, add-mul a (m - (a + b)) c, mul-le-mul-right {m = a + (m - (a + b))} {n = r} c (omega arith))))
-        (mark-past m (λ k. G k j) (r + b) a (omega arith) (omega arith))));
+    on = λ i j h k. by-lt i a
+        (λ lt. left i j h k (s .below _ (omega (arith, digits-lt {q = i} {m = a} {r = j} {c = c} lt k))) (mark-before r (λ k. G k j) (i + b) a (omega arith)))
+        (λ ge. by-lt i (a + z)
+        (λ lt. met i j ge lt k)
+        (λ past. left i j h k
+        (s .above _ (omega (arith, add-mul a z c, mul-le-mul-right {m = a + z} {n = i} c past)))
+        (mark-past r (λ k. G k j) (i + b) a (omega arith) (omega arith))));
   }
 
   -- all else is as it was
@@ -93,7 +93,7 @@ module _ {F G : ℕ → ℕ → Bool} {t x c m at from n : ℕ} {l l′ : List �
 
 -- ---- the marks of both parts
 -- those that they have
-pub marks-own : {a b c m : ℕ} {l : List ℕ} → Parts a b c m l → Marked (λ n j. lane a c l j n) (λ n j. lane b c l j n) a b c m l l
+pub marks-own : {a b c p q : ℕ} {l : List ℕ} → Parts a b c p q l → Marked (λ n j. lane a c l j n) (λ n j. lane b c l j n) a b c p q l l
 marks-own r = record {
   size = refl;
   first = record { on = λ n j h k. byte-own _ (r .first _ (digits-lt h k)) };
@@ -103,41 +103,45 @@ marks-own r = record {
   above = λ i h. refl;
 }
 
-module _ (a b c m : ℕ) (apart : a + m * c ≤ b) {l : List ℕ} where
-  module _ {F G : ℕ → ℕ → Bool} {l₁ l₂ : List ℕ} {at from n : ℕ} (p : Marked F G a b c m l l₁) (s : Joined at from n l₁ l₂) (u v : ℕ) where
+module _ (a b c p q : ℕ) (apart : a + p * c ≤ b) {l : List ℕ} where
+  module _ {F G : ℕ → ℕ → Bool} {l₁ l₂ : List ℕ} {at from n : ℕ} (x : Marked F G a b c p q l l₁) (s : Joined at from n l₁ l₂) (u v z : ℕ) where
     -- the first part joined with the second
-    pub join-first : (at ≡ a + u * c) × (from ≡ b + v * c) × (n ≡ m * c - (u * c + v * c)) × (min u v ≡ 0) × (u + v ≤ m)
-        → Marked (λ n j. F n j || mark m (λ k. G k j) (n + v) u) G a b c m l l₂
+    pub join-first : (at ≡ a + u * c) × (from ≡ b + v * c) × (n ≡ z * c) × (min u v ≡ 0) × (z ≡ min (p - u) (q - v)) × (u ≤ p)
+        → Marked (λ n j. F n j || mark q (λ k. G k j) (n + v) u) G a b c p q l l₂
     join-first w =
-        let far : (i : ℕ) → a + m * c ≤ i → byte l₂ i ≡ byte l₁ i = behind (p .first) (p .second) s u v w in record {
-          size = s .size ∙ p .size;
-          first = part-join (p .first) (p .second) s u v w;
-          second = record { on = λ n j h k. far _ (omega arith) ∙ p .second .on n j h k };
-          below = λ i h. before (p .first) (p .second) s u v w i h ∙ p .below i h;
-          between = λ i h g. far i h ∙ p .between i h g;
-          above = λ i h. far i (omega arith) ∙ p .above i h;
+        let far : (i : ℕ) → a + p * c ≤ i → byte l₂ i ≡ byte l₁ i = behind (x .first) (x .second) s u v z w in record {
+          size = s .size ∙ x .size;
+          first = part-join (x .first) (x .second) s u v z w;
+          second = record { on = λ n j h k. far _ (omega arith) ∙ x .second .on n j h k };
+          below = λ i h. before (x .first) (x .second) s u v z w i h ∙ x .below i h;
+          between = λ i h g. far i h ∙ x .between i h g;
+          above = λ i h. far i (omega arith) ∙ x .above i h;
         }
 
     -- the second part joined with the first
-    pub join-second : (at ≡ b + u * c) × (from ≡ a + v * c) × (n ≡ m * c - (u * c + v * c)) × (min u v ≡ 0) × (u + v ≤ m)
-        → Marked F (λ n j. G n j || mark m (λ k. F k j) (n + v) u) a b c m l l₂
+    pub join-second : (at ≡ b + u * c) × (from ≡ a + v * c) × (n ≡ z * c) × (min u v ≡ 0) × (z ≡ min (q - u) (p - v)) × (u ≤ q)
+        → Marked F (λ n j. G n j || mark p (λ k. F k j) (n + v) u) a b c p q l l₂
     join-second w =
-        let near : (i : ℕ) → i < b → byte l₂ i ≡ byte l₁ i = before (p .second) (p .first) s u v w in record {
-          size = s .size ∙ p .size;
-          first = record { on = λ n j h k. near _ (omega (arith, digits-lt h k)) ∙ p .first .on n j h k };
-          second = part-join (p .second) (p .first) s u v w;
-          below = λ i h. near i (omega arith) ∙ p .below i h;
-          between = λ i h g. near i g ∙ p .between i h g;
-          above = λ i h. behind (p .second) (p .first) s u v w i h ∙ p .above i h;
+        let near : (i : ℕ) → i < b → byte l₂ i ≡ byte l₁ i = before (x .second) (x .first) s u v z w in record {
+          size = s .size ∙ x .size;
+          first = record { on = λ n j h k. near _ (omega (arith, digits-lt {q = n} {m = p} {r = j} {c = c} h k)) ∙ x .first .on n j h k };
+          second = part-join (x .second) (x .first) s u v z w;
+          below = λ i h. near i (omega arith) ∙ x .below i h;
+          between = λ i h g. near i g ∙ x .between i h g;
+          above = λ i h. behind (x .second) (x .first) s u v z w i h ∙ x .above i h;
         }
 
-module _ {F F′ G G′ : ℕ → ℕ → Bool} {a b c m : ℕ} {l l′ : List ℕ} where
-  pub marks-as : Marked F G a b c m l l′ → ((n j : ℕ) → n < m → (F n j ≡ F′ n j) × (G n j ≡ G′ n j)) → Marked F′ G′ a b c m l l′
-  marks-as p e = record {
-    size = p .size;
-    first = record { on = λ n j h k. p .first .on n j h k ∙ ap byteOf (e n j h .0) };
-    second = record { on = λ n j h k. p .second .on n j h k ∙ ap byteOf (e n j h .1) };
-    below = p .below;
-    between = p .between;
-    above = p .above;
+module _ {F F′ G G′ : ℕ → ℕ → Bool} {a b c p q : ℕ} {l l′ : List ℕ} where
+  pub marks-as : Marked F G a b c p q l l′ → ((n j : ℕ) → n < p → F n j ≡ F′ n j) → ((n j : ℕ) → n < q → G n j ≡ G′ n j) → Marked F′ G′ a b c p q l l′
+  marks-as x e f = record {
+    size = x .size;
+    first = record { on = λ n j h k. x .first .on n j h k ∙ ap byteOf (e n j h) };
+    second = record { on = λ n j h k. x .second .on n j h k ∙ ap byteOf (f n j h) };
+    below = x .below;
+    between = x .between;
+    above = x .above;
   }
+
+-- rows that are left of m, d of them less
+pub rows-left : (m d c : ℕ) → d ≤ m → m * c - d * c ≡ (m - d) * c
+rows-left m d c h = let e : d + (m - d) ≡ m = omega arith in omega (arith, ap (λ z. z * c) e, add-mul d (m - d) c)

@@ -5,11 +5,11 @@
 --   lane s c l j            == line j's marks in the part from s on
 --   lineMarks a b c l j     == line j, with its evens in the part from a on and its odds in that from b on
 --   Apart t q n             == n places from t on are none of n places from q on
---   Parts a b c m l         == two parts of m rows of c marks in l, the second behind the first
+--   Parts a b c p q l       == two parts of rows of c marks in l, p rows and behind them q rows
 --   Joined at from n l l′   == l′ is l with its n bytes from `from` on joined to those from `at` on
 --   Part F s c m l          == l holds the marks F n j of line j in the part from s on, for n below m
---   Marked F G a b c m l l′ == l′ is l with the marks F in the part from a on, and G in that from b on
---   Masked k a b c m l l′   == l′ is l with kernel k's marks of each line's lows and highs in place of its evens' and odds'
+--   Marked F G a b c p q l l′ == l′ is l with the marks F in the p rows from a on, and G in the q rows from b on
+--   Masked k a b c p q l l′ == l′ is l with kernel k's marks of each line's lows and highs in place of its evens' and odds'
 --
 -- Assumes nothing: these are definitions.
 use mathlib.Core.Path.{_≡_}
@@ -34,12 +34,12 @@ lineMarks a b c l j = paired (lane a c l j) (lane b c l j)
 abbrev pub Apart : ℕ → ℕ → ℕ → Type 0
 Apart t q n = (i k : ℕ) → i < n → k < n → t + i ≡ q + k → ⊥
 
-pub record Parts (a b c m : ℕ) (l : List ℕ) : Type 0 where
-  pub some : 0 < m
-  pub apart : a + m * c ≤ b
-  pub room : b + m * c ≤ length l
-  pub first : (i : ℕ) → i < m * c → byte l (a + i) ≤ 1
-  pub second : (i : ℕ) → i < m * c → byte l (b + i) ≤ 1
+pub record Parts (a b c p q : ℕ) (l : List ℕ) : Type 0 where
+  pub some : 0 < q
+  pub apart : a + p * c ≤ b
+  pub room : b + q * c ≤ length l
+  pub first : (i : ℕ) → i < p * c → byte l (a + i) ≤ 1
+  pub second : (i : ℕ) → i < q * c → byte l (b + i) ≤ 1
 
 pub record Joined (at from n : ℕ) (l l′ : List ℕ) : Type 0 where
   pub size : length l′ ≡ length l
@@ -50,13 +50,13 @@ pub record Joined (at from n : ℕ) (l l′ : List ℕ) : Type 0 where
 pub record Part (F : ℕ → ℕ → Bool) (s c m : ℕ) (l : List ℕ) : Type 0 where
   pub on : (n j : ℕ) → n < m → j < c → byte l (s + (n * c + j)) ≡ byteOf (F n j)
 
-pub record Marked (F G : ℕ → ℕ → Bool) (a b c m : ℕ) (l l′ : List ℕ) : Type 0 where
+pub record Marked (F G : ℕ → ℕ → Bool) (a b c p q : ℕ) (l l′ : List ℕ) : Type 0 where
   pub size : length l′ ≡ length l
-  pub first : Part F a c m l′
-  pub second : Part G b c m l′
+  pub first : Part F a c p l′
+  pub second : Part G b c q l′
   pub below : (i : ℕ) → i < a → byte l′ i ≡ byte l i
-  pub between : (i : ℕ) → a + m * c ≤ i → i < b → byte l′ i ≡ byte l i
-  pub above : (i : ℕ) → b + m * c ≤ i → byte l′ i ≡ byte l i
+  pub between : (i : ℕ) → a + p * c ≤ i → i < b → byte l′ i ≡ byte l i
+  pub above : (i : ℕ) → b + q * c ≤ i → byte l′ i ≡ byte l i
 
-abbrev pub Masked : Kernel → ℕ → ℕ → ℕ → ℕ → List ℕ → List ℕ → Type 0
-Masked k a b c m l = Marked (λ n j. lowMark k m (lineMarks a b c l j) n) (λ n j. highMark k m (lineMarks a b c l j) n) a b c m l
+abbrev pub Masked : Kernel → ℕ → ℕ → ℕ → ℕ → ℕ → List ℕ → List ℕ → Type 0
+Masked k a b c p q l = Marked (λ n j. lowMark k p (lineMarks a b c l j) n) (λ n j. highMark k p (lineMarks a b c l j) n) a b c p q l

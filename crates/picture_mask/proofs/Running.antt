@@ -144,11 +144,11 @@ module _ {W w h : ℕ} {l : List ℕ} (z : Area W w h l) where
   row-in y p = omega (arith, z .wide, z .fits, mul-le-mul-right {m = y + 1} {n = h} W (omega arith))
 
   -- after it is parted, as l′
-  pub parted-parts : {l′ : List ℕ} (y low : ℕ) → y < h → w % 2 ≡ 0 → low ≡ w / 2 → PartedCopy 0 l (y * W) (y * W) w l l′ → Parts (y * W) (y * W + low) 1 (w / 2) l′
-  parted-parts {l′} y low p even e f = parts-of (y * W) (y * W + low) 1 w l′ even (omega arith) (z .some-w)
+  pub parted-parts : {l′ : List ℕ} (y low : ℕ) → y < h → w % 2 ≡ 0 → low ≡ w / 2 → PartedCopy 0 l (y * W) (y * W) w l l′ → Parts (y * W) (y * W + low) 1 low (w / 2) l′
+  parted-parts {l′} y low p even e f = rw e (parts-of (y * W) (y * W + w / 2) 1 w l′ even (omega arith) (z .some-w)
       (omega (arith, f .size, row-in y p))
       (λ i h. let q : byte l′ (y * W + i) ≡ byte l (y * W + source w i) = f .on i (omega arith) ∙ parted-source w i (λ v. byte l (y * W + v)) in
-      rw q (z .marks .each (y * W + source w i)))
+      rw q (z .marks .each (y * W + source w i))))
 
   pub col-strip : h % 2 ≡ 0 → (x : List ℕ) → 32768 ≤ length x → (c : ℕ) → c ≤ 32768 / h → Strip h c x
   col-strip even x room c le = record {
@@ -170,12 +170,12 @@ module _ {W w h : ℕ} {l : List ℕ} (z : Area W w h l) where
 
 -- ---- what the first level's row y and its columns ask
 module _ {W H : ℕ} {l : List ℕ} (z : Whole W H l) where
-  pub row-parts : (y low : ℕ) → y < H → low ≡ W / 2 → Parts (y * W) (y * W + low) 1 (W / 2) l
-  row-parts y low h e = parts-of (y * W) (y * W + low) 1 W l (z .even-w) (omega arith) (z .some-w)
-      (omega (arith, z .full, mul-le-mul-right {m = y + 1} {n = H} W (omega arith))) (λ i p. z .marks .each (y * W + i))
+  pub row-parts : (y low : ℕ) → y < H → low ≡ W / 2 → Parts (y * W) (y * W + low) 1 low (W / 2) l
+  row-parts y low h e = rw e (parts-of (y * W) (y * W + W / 2) 1 W l (z .even-w) (omega arith) (z .some-w)
+      (omega (arith, z .full, mul-le-mul-right {m = y + 1} {n = H} W (omega arith))) (λ i p. z .marks .each (y * W + i)))
 
-  pub col-parts : (low : ℕ) → low ≡ H / 2 → Parts 0 (low * W) W (H / 2) l
-  col-parts low e = parts-of 0 (low * W) W H l (z .even-h) (rw e (omega arith)) (z .some-h) (omega (arith, z .full)) (λ i p. z .marks .each (0 + i))
+  pub col-parts : (low : ℕ) → low ≡ H / 2 → Parts 0 (low * W) W low (H / 2) l
+  col-parts low e = rw e (parts-of 0 (H / 2 * W) W H l (z .even-h) (omega arith) (z .some-h) (omega (arith, z .full)) (λ i p. z .marks .each (0 + i)))
 
   -- all columns at once
   pub cols-at-once : (T : Transform ℕ) {l′ : List ℕ} → Local T → Lines T 0 0 W H W l l′ → picture 0 W l′ ≡ colPass T W H (picture 0 W l)

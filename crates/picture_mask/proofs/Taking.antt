@@ -12,6 +12,7 @@ use Rattle.line.specs.Cells.{Line}
 use Rattle.line.specs.Mask.{lowMark, highMark, maskLine, marked, byteOf}
 use Rattle.line.proofs.Cells.{by-lt, by-parity, joined-low, joined-high, paired-even, paired-odd}
 use Rattle.grid.specs.Buffer.{strided, Lines}
+use Rattle.grid.specs.Picture.{lowSide}
 use Rattle.grid.specs.Placed.{parted, woven, onWoven}
 use Rattle.grid.proofs.Passes.{factor-pos}
 use Rattle.grid.proofs.Parted.{source, parted-source, woven-even, woven-odd}
@@ -21,11 +22,11 @@ use Rattle.picture_mask.specs.Areas.{Binary, maskLineBytes}
 use Rattle.picture_mask.proofs.Local.{low-local, high-local}
 
 -- ---- c lines of n marks from a on, of which the odds begin at b
-module _ (a b c n : ℕ) (l : List ℕ) (even : n % 2 ≡ 0) (e : b ≡ a + n / 2 * c) where
+module _ (a b c n : ℕ) (l : List ℕ) (even : n % 2 ≡ 0) (e : b ≡ a + lowSide n * c) where
   halves : n * c ≡ n / 2 * c + n / 2 * c
   halves = let d : n ≡ n / 2 + n / 2 = omega arith in ap (λ z. z * c) d ∙ add-mul (n / 2) (n / 2) c
 
-  pub parts-of : 0 < n → a + n * c ≤ length l → ((i : ℕ) → i < n * c → byte l (a + i) ≤ 1) → Parts a b c (n / 2) l
+  pub parts-of : 0 < n → a + n * c ≤ length l → ((i : ℕ) → i < n * c → byte l (a + i) ≤ 1) → Parts a b c (lowSide n) (n / 2) l
   parts-of some fits marks = record {
     some = omega arith;
     apart = omega arith;
@@ -34,7 +35,7 @@ module _ (a b c n : ℕ) (l : List ℕ) (even : n % 2 ≡ 0) (e : b ≡ a + n / 
     second = λ i h. let d : b + i ≡ a + (n / 2 * c + i) = omega arith in rw d (marks (n / 2 * c + i) (omega (arith, halves)));
   }
 
-  module _ (k : Kernel) (l′ : List ℕ) (f : Masked k a b c (n / 2) l l′) where
+  module _ (k : Kernel) (l′ : List ℕ) (f : Masked k a b c (lowSide n) (n / 2) l l′) where
     line : ℕ → Line Bool
     line j i = marked (woven n (strided 0 l (a + j) c) i)
 

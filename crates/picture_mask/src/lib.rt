@@ -26,7 +26,7 @@ fn row_pass(kernel: Kernel, buf: &mut [u8], line: &mut [u16], stride: usize, w: 
     for y in 0..h {
         let at = y * stride;
         transfer::bytes::part_row(buf, line, at, w);
-        line_mask::mask(kernel, buf, at, at + low, w / 2, 1);
+        line_mask::mask(kernel, buf, at, at + low, low, w / 2, 1);
     }
 }
 
@@ -47,7 +47,7 @@ fn columns(
 {
     let low = n - n / 2;
     transfer::bytes::take(buf, strip, start, stride, n, lanes);
-    line_mask::mask(kernel, strip, 0, low * lanes, n / 2, lanes);
+    line_mask::mask(kernel, strip, 0, low * lanes, low, n / 2, lanes);
     transfer::bytes::put(strip, buf, start, stride, n, lanes);
 }
 
@@ -115,7 +115,7 @@ fn placed_rows(kernel: Kernel, marks: &mut [u8], w: usize, h: usize)
     let low = w - w / 2;
     for y in 0..h {
         let at = y * w;
-        line_mask::mask(kernel, marks, at, at + low, w / 2, 1);
+        line_mask::mask(kernel, marks, at, at + low, low, w / 2, 1);
     }
 }
 
@@ -125,7 +125,7 @@ fn placed_cols(kernel: Kernel, marks: &mut [u8], w: usize, h: usize)
     ensures { λ _. ⌜ picture 0 w (now (marks .exit)) ≡ colPass (onWoven (maskLineBytes kernel)) w h (picture 0 w (now (marks .entry))) ⌝ }
 {
     let low = h - h / 2;
-    line_mask::mask(kernel, marks, 0, low * w, h / 2, w);
+    line_mask::mask(kernel, marks, 0, low * w, low, h / 2, w);
 }
 
 // Makes, in place, the mask of the region that a buffer holds placed.

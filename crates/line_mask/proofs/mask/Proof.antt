@@ -38,4 +38,4 @@ mask-spec =
     (λ c. rw (c .before .before .before .before .enum-told .given .1) (c .before .before .mask-five-three .ensures))
     (λ c. search needs)
     (λ c. let g = c .before .before .before .before .before .before .before .args in let k = c .before .before .before .before .before .match .keys2 in
-    marks-as (rw (c .before .before .before .before .reach .ensures) at (c .before .before .mask-pairs .ensures)) (λ n j h. pair-kernel (g .m) _ n (g .kernel) k)))
+    marks-as (rw (c .before .before .before .before .reach .ensures) at (c .before .before .mask-pairs .ensures)) (λ n j h. pair-kernel (g .lows) _ n (g .kernel) k .0) (λ n j h. pair-kernel (g .lows) _ n (g .kernel) k .1)))

@@ -26,7 +26,7 @@ row : (c : tie.In-loop Inv-loop μ-loop) → let a = c .before .before .before .
 row c = row-in (area c) (c .before .loop .y) (omega arith)
 
 parts : (c : tie.After-part-row Inv-loop μ-loop) → let a = c .before .before .before .before .before .before .before .args in let y = c .before .before .before .before .loop .y in
-    Parts (y * a .stride) (y * a .stride + (a .w - a .w / 2)) 1 (a .w / 2) (c .part-row .last .0)
+    Parts (y * a .stride) (y * a .stride + (a .w - a .w / 2)) 1 (a .w - a .w / 2) (a .w / 2) (c .part-row .last .0)
 parts c = let s = c .before .before .before .before .before .before .before in parted-parts (area (c .before .before .before)) (c .before .before .before .before .loop .y) (s .args .w - s .args .w / 2) (omega arith) (s .pre .1 .0) (omega (arith, s .pre .1 .0)) (c .part-row .ensures)
 
 pub row-pass-spec : {M : Type 1} → statement M
@@ -39,13 +39,13 @@ row-pass-spec =
     (λ c. omega (arith, row c))
     (λ c κs. let s = c .before .before .before .before .before .before in (row (c .before .before), (s .pre .1 .0, omega (arith, s .pre .1 .1, s .pre .0 .w-most, c .before .before .before .loop .inv .1))))
     (λ c. omega (arith, row (c .before .before .before .before .before .before .before .before)))
-    (λ c κs. parts (c .before .before .before .before .before))
+    (λ c κs. let t = c .before .before .before .before .before in (omega (arith, t .before .before .before .before .before .before .before .pre .1 .0), parts t))
     (λ c. omega arith)
     (λ c. omega arith)
-    (λ c. let s = c .before .before .before .before .before .before .before .before .before .before .before .before .before .before .before in let a = s .args in let l = c .before .before .before .before .before .before .before .before .before .before .before .before .loop in let p = c .before .before .before .before .before .before .before .before .part-row in (
+    (λ c. let s = c .before .before .before .before .before .before .before .before .before .before .before .before .before .before .before in let a = s .args in let l = c .before .before .before .before .before .before .before .before .before .before .before .before .loop in let p = c .before .before .before .before .before .before .before .before .part-row in let e : a .w - a .w / 2 ≡ a .w / 2 = omega (arith, s .pre .1 .0) in (
       rows-more (bytes-local (a .kernel)) (s .pre .0 .wide) (s .pre .1 .0) (l .inv .0) (omega arith)
           (row-back (bytes-local (a .kernel)) (s .pre .1 .0) (p .ensures)
-          (masked-lines (l .y * a .stride) (l .y * a .stride + (a .w - a .w / 2)) 1 (a .w) _ (s .pre .1 .0) (omega (arith, s .pre .1 .0)) (a .kernel) _ (c .before .before .mask .ensures))),
+          (masked-lines (l .y * a .stride) (l .y * a .stride + a .w / 2) 1 (a .w) _ (s .pre .1 .0) (omega arith) (a .kernel) _ (rw e at (c .before .before .mask .ensures)))),
       p .kept .1 .0 ∙ l .inv .1,
     ))
     (λ c. c .before .loop .inv .0 .same)
