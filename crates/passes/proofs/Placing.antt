@@ -23,7 +23,7 @@ use Rattle.grid.proofs.Passes.{cell, cell-past}
 use Rattle.grid.proofs.Outside.{row-below, row-right}
 use Rattle.grid.proofs.Parted.{row-cell, cols-parted-cell, source, source-low, source-high, source-lt, woven-even, woven-odd}
 use Rattle.runs.specs.Cells.{Written}
-use Rattle.transfer.specs.Moved.{Places, Twofold}
+use Rattle.transfer.specs.Moved.{Twofold}
 use Rattle.lifting.specs.Parts.{lane, Parts, Bounded, Both}
 use Rattle.lifting.specs.Lines.{lowsOf, highsOf}
 use Rattle.passes.specs.Passes.{pictured}
@@ -38,15 +38,6 @@ row-parts at w size even few room = record {
   first = record { place = λ n j h k. omega arith };
   second = record { place = λ n j h k. omega arith };
   apart = λ n j n′ j′ h k h′ k′ e. omega arith;
-}
-
-pub row-places : {A : Type 0} (at w : ℕ) (l : List A) → at + w ≤ length l → Places (λ k. at + k) (λ k. at + lowSide w + k) (w / 2) l
-row-places at w l h = record {
-  first = λ k r. omega arith;
-  second = λ k r. omega arith;
-  apart = λ i k r p e. omega arith;
-  firsts = λ i k r e. omega arith;
-  seconds = λ i k r e. omega arith;
 }
 
 module _ (X : Line ℤ) (at w : ℕ) {l l₁ : List ℤ} (even : w % 2 ≡ 0) (p : Twofold (pos 0) (λ k. X (2 * k)) (λ k. X (2 * k + 1)) (λ k. at + k) (λ k. at + lowSide w + k) (w / 2) l l₁) where

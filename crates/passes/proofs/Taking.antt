@@ -24,7 +24,7 @@ use Rattle.grid.proofs.Parted.{woven-even, woven-odd, parted-even, parted-odd}
 use Rattle.lifting.specs.Parts.{lane, Parts, Bounded, Both}
 use Rattle.lifting.specs.Lines.{lowsOf, highsOf}
 use Rattle.transfer.specs.Copied.{Room, Copied}
-use Rattle.transfer.specs.Moved.{Rows, Moved, Places, Twofold}
+use Rattle.transfer.specs.Moved.{Rows, Moved, Twofold}
 use Rattle.passes.specs.Passes.{Takes}
 use Rattle.passes.proofs.Places.{even-place, odd-place}
 use Rattle.passes.proofs.Forms.{forward-form, back-form}
@@ -84,24 +84,6 @@ module _ {l : List ℤ} {at : ℕ} (w : ℕ) (i : InBuffer l at 1 w 1) where
 
   pub pair-ends : (k : ℕ) → k < w / 2 → at + 2 * k + 1 < length l
   pair-ends k h = omega (arith, i .place (2 * k + 1) 0 (omega arith) (omega arith))
-
-  pub turn-places : Places (λ k. at + 2 * k) (λ k. at + 2 * k + 1) (w / 2) l
-  turn-places = record {
-    first = λ k h. omega (arith, pair-ends k h);
-    second = λ k h. pair-ends k h;
-    apart = λ i k h j e. omega arith;
-    firsts = λ i k h e. omega arith;
-    seconds = λ i k h e. omega arith;
-  }
-
-pub half-places : (w : ℕ) (q : List ℤ) → w ≤ length q → Places (λ k. 0 + k) (λ k. lowSide w + k) (w / 2) q
-half-places w q h = record {
-  first = λ k r. omega arith;
-  second = λ k r. omega arith;
-  apart = λ i k r p e. omega arith;
-  firsts = λ i k r e. omega arith;
-  seconds = λ i k r e. omega arith;
-}
 
 pub row-halved : (l : List ℤ) (at w : ℕ) {q q′ : List ℤ}
     → Twofold (pos 0) (λ k. getD l (at + 2 * k) (pos 0)) (λ k. getD l (at + 2 * k + 1) (pos 0)) (λ k. 0 + k) (λ k. lowSide w + k) (w / 2) q q′ → Halved l at 1 w 1 q′

@@ -3,8 +3,9 @@ use mathlib.Core.Path.{_≡_}
 use Prim.Native.Nat.{_-_, _/_}
 use native.Mathlib.Omega.{arith}
 use borrow.Author.Needs.{needs}
+use Rattle.transfer.proofs.Twofold.{runs-places, turns-places}
 use Rattle.passes.proofs.Running.{half-left}
-use Rattle.passes.proofs.Taking.{line-parts, row-out, row-back-room, pair-ends, turn-places, half-places, row-halved, row-bounded, row-forward, lows-bounded, highs-bounded, row-back}
+use Rattle.passes.proofs.Taking.{line-parts, row-out, row-back-room, pair-ends, row-halved, row-bounded, row-forward, lows-bounded, highs-bounded, row-back}
 use Rattle.passes.proofs.row.Statement.{statement}
 use Rattle.passes.proofs.row.Tie as tie
 
@@ -19,8 +20,8 @@ row-spec =
     (λ c κs. let s = c .before .before .before .before .before .before in let a = s .args in let p = c .before .before .copy .ensures in let t = rw (c .before .before .before .before .before .if1 .taken) at (s .pre .1 .1) in
     ((same s, omega (arith, s .pre .0)), rw (same s) (line-parts (a .w) _ (s .pre .0 .1) (s .pre .0 .2) (omega (arith, s .pre .0, p .size)), (lows-bounded (a .l .now) (a .at) (a .w) (s .pre .0 .1) p t, highs-bounded (a .l .now) (a .at) (a .w) (s .pre .0 .1) p t))))
     (λ c κs. let s = c .before .before .before .before .before .before .before .before .before .before in let p = c .before .before .before .before .before .before .copy .ensures in let f = c .before .before .before .back .ensures in
-    ((λ k h. omega (arith, s .pre .0, f .size, p .size)), turn-places (s .args .w) (s .pre .1 .0)))
-    (λ c κs. let s = c .before .before .before in let a = s .args in (pair-ends (a .w) (s .pre .1 .0), rw (same s) (half-places (a .w) _ (s .pre .0 .3))))
+    ((λ k h. omega (arith, s .pre .0, f .size, p .size)), turns-places (s .args .at) (s .args .w / 2) _ (omega (arith, s .pre .1 .0 .place (s .args .w - 1) 0 (omega (arith, s .pre .0)) (omega arith)))))
+    (λ c κs. let s = c .before .before .before in let a = s .args in (pair-ends (a .w) (s .pre .1 .0), runs-places 0 (a .w - a .w / 2) (a .w / 2) _ (omega (arith, s .pre .0)) (omega (arith, s .pre .0)) (λ i k h r e. omega arith)))
     (λ c κs. let s = c .before .before .before .before .before .before in let a = s .args in let p = rw (same s) at (c .before .before .part .ensures) in let t = rw (c .before .before .before .before .before .if1 .left) at (s .pre .1 .1) in
     ((same s, omega (arith, s .pre .0)), rw (same s) (line-parts (a .w) _ (s .pre .0 .1) (s .pre .0 .2) (omega (arith, s .pre .0, p .size)), row-bounded (s .pre .0 .1) (row-halved (a .l .now) (a .at) (a .w) p) t)))
     (λ c κs. let s = c .before .before .before .before .before .before .before .before .before .before in row-back-room (s .args .w) (s .pre .1 .0) (omega (arith, s .pre .0, c .before .before .before .forward .ensures .size, c .before .before .before .before .before .before .part .ensures .size)))

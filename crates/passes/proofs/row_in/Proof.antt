@@ -6,8 +6,9 @@ use borrow.Author.Needs.{needs}
 use lib.IntN.{ℤ, pos}
 use lib.ListN.{getD}
 use Rattle.line.specs.Cells.{Line}
+use Rattle.transfer.proofs.Twofold.{runs-places}
 use Rattle.passes.proofs.Running.{half-left}
-use Rattle.passes.proofs.Placing.{row-parts, row-places, samples-parted, front-bounded, rear-bounded, row-stored}
+use Rattle.passes.proofs.Placing.{row-parts, samples-parted, front-bounded, rear-bounded, row-stored}
 use Rattle.passes.proofs.row_in.Statement.{statement}
 use Rattle.passes.proofs.row_in.Tie as tie
 
@@ -19,7 +20,7 @@ row-in-spec =
     tie.close (tie.spec
     (λ c. search needs)
     (λ c. omega (arith, c .before .before .pre))
-    (λ c κs. let s = c .before .before in ((λ k h. omega (arith, s .pre .1 .0)), rw (same s) (row-places (s .args .at) (s .args .w) _ (s .pre .1 .0 .0))))
+    (λ c κs. let s = c .before .before in ((λ k h. omega (arith, s .pre .1 .0)), let a = s .args in runs-places (a .at) (a .at + (a .w - a .w / 2)) (a .w / 2) _ (omega (arith, s .pre .1 .0)) (omega (arith, s .pre .1 .0)) (λ i k h r e. omega arith)))
     (λ c. omega (arith, c .before .before .before .before .before .pre))
     (λ c κs. let s = c .before .before .before .before .before in let a = s .args in let x : Line ℤ = λ i. pos (getD (a .samples .now) (a .from + i) 0) in let p = samples-parted (a .samples .now) (a .from) (a .at) (a .w) (rw (same s) at (c .before .before .part-samples .ensures)) in
     ((same s, omega (arith, s .pre .0)), rw (same s) (row-parts (a .at) (a .w) _ (s .pre .0 .1) (s .pre .0 .2) (omega (arith, s .pre .1 .0, p .size)), (front-bounded x (a .at) (a .w) (s .pre .0 .1) p (s .pre .1 .1), rear-bounded x (a .at) (a .w) (s .pre .0 .1) p (s .pre .1 .1)))))
