@@ -155,6 +155,7 @@ fn lift(
 {
     let back = look_back(s);
     let ahead = look_ahead(s);
+    // From row `first` up to row `last` no row outside is looked at.
     let first = whole::most(a, back);
     let seen = whole::least(m, b + ahead);
     if seen <= first + ahead {
@@ -315,7 +316,7 @@ pub fn begin_rows(
     }
 }
 
-// The last step, on the first rows of lows and all rows of highs; it looks at the rows of lows behind.
+// The last step, on all rows of highs and as many rows of lows; it looks at the rows of lows behind them.
 pub fn end_rows(
     kernel: Kernel,
     l: &mut [i32],
