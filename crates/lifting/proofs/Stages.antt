@@ -10,29 +10,23 @@ use Prim.Native.Nat.{ℕ, _+_, _*_, _-_, _/_, _%_, _^_, _<_, _≤_}
 use native.Mathlib.Omega.{arith}
 use lib.Arith.{digits-lt}
 use lib.Dec.{T, ltb}
-use lib.IntN.{ℤ, _+ℤ_, _-ℤ_}
+use lib.IntN.{ℤ}
 use lib.ListN.{length}
 use mir.Syntax.{w32}
 use Rattle.whole.specs.Within.{Within}
 use Rattle.whole.proofs.Linear.{within-fits}
-use Rattle.kernel.specs.declared.Kernel.{Kernel}
 use Rattle.kernel.specs.declared.Kernel.the-variants as kernel
-use Rattle.line.specs.Cells.{Line, cell, evens, paired}
-use Rattle.line.specs.Formulas.{mean, difference}
+use Rattle.line.specs.Cells.{Line, cell}
 use Rattle.line.specs.Inner.{AllWithin, Agree}
-use Rattle.line.specs.Transform.{means, differences, predict, pairHigh, low, high}
-use Rattle.line.proofs.Back.{sub-none}
-use Rattle.line.proofs.Bounds.{mean-within, difference-within, add-within, sub-within, first-within, second-within, within-more, predict-within, update-within}
-use Rattle.line.proofs.Cells.{by-lt, paired-even, paired-odd}
-use Rattle.line.proofs.Local.{predict-reach, update-local}
+use Rattle.line.proofs.Bounds.{add-within, sub-within, first-within, second-within, within-more, predict-within, update-within}
+use Rattle.line.proofs.Cells.{by-lt}
 use Rattle.steps.specs.Moved.{moved}
 use Rattle.runs.specs.Cells.{Pairs}
-use Rattle.runs.specs.Steps.{tapBound}
 use Rattle.runs.specs.declared.Step.{Step}
 use Rattle.runs.specs.declared.Step.the-variants.{SPlusP, TT, High, Low}
 use Rattle.lifting.specs.Parts.{lane, Parts, Bounded, Both}
 use Rattle.lifting.specs.Steps.{amount, movedRow, EndToEnd, Fit, Lifted}
-use Rattle.lifting.specs.Lines.{pairFirst, pairSecond, firsts, seconds, PairFit, Pairable, predicted, RowsWithin, lowsOf, highsOf}
+use Rattle.lifting.specs.Lines.{pairFirst, pairSecond, firsts, seconds, PairFit, Pairable, RowsWithin}
 use Rattle.lifting.proofs.Rows.{row-place, row-in, line-in, run-place, same-row, parts-swap, parts-as, rows-other}
 use Rattle.lifting.proofs.Lifts.{amount-local}
 
@@ -146,20 +140,13 @@ pub pairable-part : (join : Bool) {a b t c d e : ℕ} {l : List ℤ} (u v : ℕ)
 pairable-part join u v p x y = record { each = λ n j q h. p .each n j (omega arith) (omega arith) }
 
 -- ---- what fits 32 bits
-amount-within : (s : Step) (M a : ℕ) (L : Line ℤ) → AllWithin a M L → AllWithin (a + 1) M (amount s M L)
+pub amount-within : (s : Step) (M a : ℕ) (L : Line ℤ) → AllWithin a M L → AllWithin (a + 1) M (amount s M L)
 amount-within SPlusP M a L all = predict-within kernel.SPlusP M a L all
 amount-within TT M a L all = predict-within kernel.TT M a L all
 amount-within High M a L all = predict-within kernel.FiveThree M a L all
 amount-within Low M a L all = λ n h. within-more (update-within M a L all n h) (omega arith)
 
--- what each step takes at least
-pub forward-tap : (s : Step) → 5 * 2 ^ 22 ≤ tapBound s
-forward-tap SPlusP = omega arith
-forward-tap TT = omega arith
-forward-tap High = omega arith
-forward-tap Low = omega arith
-
-moved-within : (add : Bool) (a b : ℕ) (t p : ℤ) → Within a t → Within b p → Within (a + b) (moved add t p)
+pub moved-within : (add : Bool) (a b : ℕ) (t p : ℤ) → Within a t → Within b p → Within (a + b) (moved add t p)
 moved-within true a b t p v w = add-within a b t p v w
 moved-within false a b t p v w = sub-within a b t p v w
 
@@ -180,19 +167,12 @@ rows-fit s add {M} {v = v} {t = t} {p = p} {q = q} {l = l} le x y fits = record 
   fits = λ n j o h k. within-fits w32 fits (moved-within add p (q + 1) _ _ (x .each n j o h k) (amount-within s M q (lane v t l j) (y .each j k) n (omega arith)));
 }
 
-module _ {a b t m c r : ℕ} {l l′ : List ℤ} (x : Bounded r a t m c l) (y : Bounded r b t m c l) (f : Both (firsts false) (seconds false) a b t c 0 m m l l′) where
-  pub means-bounded : Bounded r a t m c l′
-  means-bounded = record { each = λ j k n h. rw (f .first n j (omega arith) h k) (mean-within r _ _ (x .each j k n h) (y .each j k n h)) }
-
-  pub differences-bounded : Bounded (2 * r) b t m c l′
-  differences-bounded = record { each = λ j k n h. rw (f .second n j (omega arith) h k) (difference-within r _ _ (x .each j k n h) (y .each j k n h)) }
-
-module _ {a b t m c p q : ℕ} {l : List ℤ} (x : Bounded p a t m c l) (y : Bounded q b t m c l) where
-  pub split-able : p ≤ 2 ^ 29 → q ≤ 2 ^ 29 → Pairable false a b t c 0 m l
-  split-able i k = record { each = λ n j o h r. (within-more (x .each j r n h) i, within-more (y .each j r n h) k) }
-
-  pub join-able : T (ltb (p + (q + 1) / 2) (2 ^ 31)) → Pairable true a b t c 0 m l
-  join-able fits = record { each = λ n j o h r. (within-fits w32 fits (first-within p q _ _ (x .each j r n h) (y .each j r n h)), within-fits w32 fits (second-within p q _ _ (x .each j r n h) (y .each j r n h))) }
+pub pair-able : (join : Bool) {a b t m c : ℕ} {l : List ℤ} → Bounded (2 ^ 29) a t m c l → Bounded (2 ^ 29) b t m c l → Pairable join a b t c 0 m l
+pair-able false x y = record { each = λ n j o h r. (x .each j r n h, y .each j r n h) }
+pair-able true x y = record {
+  each = λ n j o h r. let f = first-within (2 ^ 29) (2 ^ 29) _ _ (x .each j r n h) (y .each j r n h) in let s = second-within (2 ^ 29) (2 ^ 29) _ _ (x .each j r n h) (y .each j r n h) in
+      (within-fits w32 tt f, within-fits w32 tt s);
+}
 
 -- ---- the stages are local
 pub first-local : {p q : ℕ} → Local p p q (λ A B. A)
@@ -206,42 +186,3 @@ moves-second-local {p} s add le A A′ B B′ x y n h = ap₂ (moved add) (y n h
 
 pub moves-first-local : {p q : ℕ} (s : Step) (add : Bool) → p ≤ q → Local p p q (λ A B n. moved add (A n) (amount s q B n))
 moves-first-local {p} {q} s add le A A′ B B′ x y n h = ap₂ (moved add) (x n h) (amount-local s q n B B′ (omega arith) y)
-
--- ---- kernel by kernel
-module _ (M : ℕ) (A B : Line ℤ) where
-  means-of : (n : ℕ) → firsts false A B n ≡ means (paired A B) n
-  means-of n = sym (ap₂ mean (paired-even A B n) (paired-odd A B n))
-
-  differences-of : (n : ℕ) → seconds false A B n ≡ differences (paired A B) n
-  differences-of n = sym (ap₂ difference (paired-even A B n) (paired-odd A B n))
-
-  pair-high-of : (k : Kernel) (n : ℕ) → n < M → difference (A n) (B n) -ℤ predict k M (firsts false A B) n ≡ pairHigh k M (paired A B) n
-  pair-high-of k n h = ap₂ _-ℤ_ (differences-of n) (predict-reach k M n (firsts false A B) (means (paired A B)) h (λ i lt p q. means-of i))
-
-  high-of : (n : ℕ) → n < M → B n -ℤ predict kernel.FiveThree M A n ≡ high kernel.FiveThree M (paired A B) n
-  unfolding high
-  high-of n h = ap₂ _-ℤ_ (sym (paired-odd A B n)) (predict-reach kernel.FiveThree M n A (evens (paired A B)) h (λ i lt p q. sym (paired-even A B i)))
-
-module _ {a b t c m : ℕ} {l l′ : List ℤ} where
-  pub forward-s : Both (firsts false) (seconds false) a b t c 0 m m l l′ → Both (lowsOf kernel.S m) (highsOf kernel.S m) a b t c 0 m m l l′
-  unfolding low high
-  forward-s = both-as (λ A B n h. means-of m A B n) (λ A B n h. differences-of m A B n ∙ sym (sub-none m (means (paired A B)) n _))
-
-  pub forward-a : Both (firsts false) (predicted SPlusP m) a b t c 0 m m l l′ → Both (lowsOf kernel.SPlusP m) (highsOf kernel.SPlusP m) a b t c 0 m m l l′
-  unfolding low high
-  forward-a = both-as (λ A B n h. means-of m A B n) (λ A B n h. pair-high-of m A B kernel.SPlusP n h)
-
-  pub forward-tt : Both (firsts false) (predicted TT m) a b t c 0 m m l l′ → Both (lowsOf kernel.TT m) (highsOf kernel.TT m) a b t c 0 m m l l′
-  unfolding low high
-  forward-tt = both-as (λ A B n h. means-of m A B n) (λ A B n h. pair-high-of m A B kernel.TT n h)
-
-  module _ {l″ : List ℤ} (g : Parts a b t m m c (length l)) where
-    pub forward-pairs : {s : Step} → Both (firsts false) (seconds false) a b t c 0 m m l l′ → Lifted s false m c 0 m b a t l′ l″ → Both (firsts false) (predicted s m) a b t c 0 m m l l″
-    forward-pairs {s} f h = both-then first-local (moves-second-local s false (omega arith)) f (step-second (parts-as g (f .size)) h)
-
-    pub forward-five-three : Lifted High false m c 0 m b a t l l′ → Lifted Low true m c 0 m a b t l′ l″ → Both (lowsOf kernel.FiveThree m) (highsOf kernel.FiveThree m) a b t c 0 m m l l″
-    unfolding low
-    forward-five-three f h = both-as
-        (λ A B n k. ap₂ _+ℤ_ (sym (paired-even A B n)) (update-local m n _ (high kernel.FiveThree m (paired A B)) k (λ i lt. high-of m A B i lt)))
-        (λ A B n k. high-of m A B n k)
-        (both-then (moves-first-local Low true (omega arith)) second-local (step-second g f) (step-first (parts-as g (f .rows .size)) h))

@@ -6,22 +6,23 @@
 --   seconds join A B
 --   PairFit join x y      == what makes it fit 32 bits
 --   Pairable join .. l    == that for the rows d up to e of the parts at a and b
---   predicted s M A B     == the differences, less the amounts of step s from the means
---   again s M A B         == the highs B, with the amounts of step s from the lows A
 --   RowsWithin r .. d e l == the numbers of rows d up to e of a part are within r
---   Begins k .. d e l     == what the first step of kernel k's way back takes, on rows d up to e: the part that it looks at, and those rows of the other
---   begunFirst k K A B    == the way back, its first step done: the first part, from the lows A and the K highs B
---   begunSecond k M A B   == the second part, from the M lows
---   endedFirst k A B      == its last step: the evens, from the parts A and B that the first step leaves
---   endedSecond k M A B   == the odds
+--   firstLows undo k A B  == the first step of kernel k on a line's parts A and B, or that step undone: the first part
+--   firstHighs undo k M A B
+--                         == the second part, which kernel 3 moves by the M lows
+--   secondLows undo k K A B
+--                         == the second step, or that step undone: the first part, which kernel 3 moves by the K highs
+--   secondHighs undo k M A B
+--                         == the second part, which kernels 1 and 2 move by the M lows
+--   SecondTakes k .. d e l == what the second step takes, on rows d up to e: the part that it looks at, and those rows of the other
 --   lowsOf k M A B        == kernel k's lows of the line with these evens and odds
 --   highsOf k M A B       == its highs
 --
 -- Assumes nothing: these are definitions.
-use mathlib.Core.Bool.{Bool, true, false}
+use mathlib.Core.Bool.{Bool, true, false, not}
 use mathlib.Core.List.{List}
 use Prim.Native.Nat.{ℕ, _^_, _<_, _≤_}
-use lib.IntN.{ℤ, _+ℤ_, _-ℤ_}
+use lib.IntN.{ℤ}
 use mir.Syntax.{w32}
 use mir.Val.{SFits}
 use Rattle.whole.specs.Within.{Within}
@@ -29,8 +30,8 @@ use Rattle.kernel.specs.declared.Kernel.{Kernel}
 use Rattle.kernel.specs.declared.Kernel.the-variants.{S, SPlusP, TT, FiveThree}
 use Rattle.line.specs.Cells.{Line, paired}
 use Rattle.line.specs.Formulas.{mean, difference, firstOf, secondOf}
-use Rattle.line.specs.Transform.{predict, update, low, high}
-use Rattle.runs.specs.declared.Step.{Step}
+use Rattle.line.specs.Transform.{low, high}
+use Rattle.steps.specs.Moved.{moved}
 use Rattle.runs.specs.declared.Step.the-variants as step
 use Rattle.lifting.specs.Parts.{lane, Bounded}
 use Rattle.lifting.specs.Steps.{amount}
@@ -56,44 +57,39 @@ PairFit true x y = SFits w32 (firstOf x y) × SFits w32 (secondOf x y)
 pub record Pairable (join : Bool) (a b t c d e : ℕ) (l : List ℤ) : Type 0 where
   pub each : (n j : ℕ) → d ≤ n → n < e → j < c → PairFit join (lane a t l j n) (lane b t l j n)
 
-abbrev pub predicted : Step → ℕ → Line ℤ → Line ℤ → Line ℤ
-predicted s M A B n = difference (A n) (B n) -ℤ amount s M (firsts false A B) n
-
-abbrev pub again : Step → ℕ → Line ℤ → Line ℤ → Line ℤ
-again s M A B n = B n +ℤ amount s M A n
-
 pub record RowsWithin (r a t c d e : ℕ) (l : List ℤ) : Type 0 where
   pub each : (n j : ℕ) → d ≤ n → n < e → j < c → Within r (lane a t l j n)
 
-abbrev pub Begins : Kernel → ℕ → ℕ → ℕ → ℕ → ℕ → ℕ → ℕ → ℕ → List ℤ → Type 0
-Begins S a b t p q c d e l = Unit
-Begins SPlusP a b t p q c d e l = Bounded (2 ^ 28) a t p c l × RowsWithin (2 ^ 24) b t c d e l
-Begins TT a b t p q c d e l = Bounded (2 ^ 28) a t p c l × RowsWithin (2 ^ 24) b t c d e l
-Begins FiveThree a b t p q c d e l = Bounded (2 ^ 24) b t q c l × RowsWithin (2 ^ 28) a t c d e l
+-- ---- forward is the first step and then the second, the way back the second undone and then the first
+abbrev pub firstLows : Bool → Kernel → Line ℤ → Line ℤ → Line ℤ
+firstLows undo S A B = firsts undo A B
+firstLows undo SPlusP A B = firsts undo A B
+firstLows undo TT A B = firsts undo A B
+firstLows undo FiveThree A B = A
 
-abbrev pub begunFirst : Kernel → ℕ → Line ℤ → Line ℤ → Line ℤ
-begunFirst S K A B = A
-begunFirst SPlusP K A B = A
-begunFirst TT K A B = A
-begunFirst FiveThree K A B = λ n. A n -ℤ update K B n
+abbrev pub firstHighs : Bool → Kernel → ℕ → Line ℤ → Line ℤ → Line ℤ
+firstHighs undo S M A B = seconds undo A B
+firstHighs undo SPlusP M A B = seconds undo A B
+firstHighs undo TT M A B = seconds undo A B
+firstHighs undo FiveThree M A B = λ n. moved undo (B n) (amount step.High M A n)
 
-abbrev pub begunSecond : Kernel → ℕ → Line ℤ → Line ℤ → Line ℤ
-begunSecond S M A B = B
-begunSecond SPlusP M A B = again step.SPlusP M A B
-begunSecond TT M A B = again step.TT M A B
-begunSecond FiveThree M A B = B
+abbrev pub secondLows : Bool → Kernel → ℕ → Line ℤ → Line ℤ → Line ℤ
+secondLows undo S K A B = A
+secondLows undo SPlusP K A B = A
+secondLows undo TT K A B = A
+secondLows undo FiveThree K A B = λ n. moved (not undo) (A n) (amount step.Low K B n)
 
-abbrev pub endedFirst : Kernel → Line ℤ → Line ℤ → Line ℤ
-endedFirst S A B = firsts true A B
-endedFirst SPlusP A B = firsts true A B
-endedFirst TT A B = firsts true A B
-endedFirst FiveThree A B = A
+abbrev pub secondHighs : Bool → Kernel → ℕ → Line ℤ → Line ℤ → Line ℤ
+secondHighs undo S M A B = B
+secondHighs undo SPlusP M A B = λ n. moved undo (B n) (amount step.SPlusP M A n)
+secondHighs undo TT M A B = λ n. moved undo (B n) (amount step.TT M A n)
+secondHighs undo FiveThree M A B = B
 
-abbrev pub endedSecond : Kernel → ℕ → Line ℤ → Line ℤ → Line ℤ
-endedSecond S M A B = seconds true A B
-endedSecond SPlusP M A B = seconds true A B
-endedSecond TT M A B = seconds true A B
-endedSecond FiveThree M A B = λ n. B n +ℤ predict FiveThree M A n
+abbrev pub SecondTakes : Kernel → ℕ → ℕ → ℕ → ℕ → ℕ → ℕ → ℕ → ℕ → List ℤ → Type 0
+SecondTakes S a b t p q c d e l = Unit
+SecondTakes SPlusP a b t p q c d e l = Bounded (2 ^ 28) a t p c l × RowsWithin (2 ^ 29) b t c d e l
+SecondTakes TT a b t p q c d e l = Bounded (2 ^ 28) a t p c l × RowsWithin (2 ^ 29) b t c d e l
+SecondTakes FiveThree a b t p q c d e l = Bounded (2 ^ 29) b t q c l × RowsWithin (2 ^ 28) a t c d e l
 
 abbrev pub lowsOf : Kernel → ℕ → Line ℤ → Line ℤ → Line ℤ
 lowsOf k M A B = low k M (paired A B)

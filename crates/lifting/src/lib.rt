@@ -1,14 +1,12 @@
 // Lifting: the line transforms, forward and back, in place on lines side by side whose two parts stand in one buffer.
 ghost use mathlib.Core.Path.{_≡_};
-ghost use mathlib.Core.Bool.{true, false};
 ghost use Prim.Native.Nat.{_+_, _*_, _^_, _≤_, _<_};
 ghost use lib.ListN.{length};
-ghost use Rattle.kernel.specs.declared.Kernel.the-variants.{FiveThree};
 ghost use Rattle.line.specs.Transform as line;
 ghost use Rattle.runs.specs.Steps.{tapBound};
 ghost use Rattle.lifting.specs.Parts.{In, Parts, Bounded, Both};
 ghost use Rattle.lifting.specs.Steps.{lookBack, lookAhead, tapsOf, Straight, EndToEnd, Fit, Lifted};
-ghost use Rattle.lifting.specs.Lines.{firsts, seconds, Pairable, predicted, Begins, begunFirst, begunSecond, endedFirst, endedSecond, lowsOf, highsOf};
+ghost use Rattle.lifting.specs.Lines.{firsts, seconds, Pairable, firstLows, firstHighs, secondLows, secondHighs, SecondTakes, lowsOf, highsOf};
 use kernel::Kernel;
 use runs::Step;
 use runs::Taps;
@@ -223,9 +221,11 @@ fn pairs(l: &mut [i32], a: usize, b: usize, step: usize, m: usize, lanes: usize,
     }
 }
 
-// Kernels 1 and 2, forward: what step s predicts from the means is taken off the differences.
-fn forward_pairs(
-    s: Step,
+// The first step of a kernel, or that step undone: kernels 0 to 2 make means and differences of pairs, kernel 3 takes what it predicts off the
+// highs. On all rows of highs and as many rows of lows; it looks at the rows of lows behind them.
+pub fn first_step(
+    kernel: Kernel,
+    undo: bool,
     l: &mut [i32],
     a: usize,
     b: usize,
@@ -234,18 +234,24 @@ fn forward_pairs(
     highs: usize,
     lanes: usize,
 )
-    requires { ⌜ (lows ≡ highs) × (0 < highs) ⌝ }
+    requires { ⌜ (0 < highs) × (highs ≤ lows) ⌝ }
     requires { ⌜ Parts a b step lows highs lanes (length (now l)) ⌝ }
-    requires { ⌜ Bounded (5 * 2 ^ 22) a step lows lanes (now l) ⌝ }
-    requires { ⌜ Bounded (5 * 2 ^ 22) b step highs lanes (now l) ⌝ }
-    ensures { λ _. ⌜ Both (firsts false) (predicted s lows) a b step lanes 0 lows highs (now (l .entry)) (now (l .exit)) ⌝ }
+    requires { ⌜ Bounded (2 ^ 29) a step lows lanes (now l) ⌝ }
+    requires { ⌜ Bounded (2 ^ 29) b step highs lanes (now l) ⌝ }
+    ensures { λ _. ⌜ Both (firstLows undo kernel) (firstHighs undo kernel lows) a b step lanes 0 highs highs (now (l .entry)) (now (l .exit)) ⌝ }
 {
-    pairs(l, a, b, step, highs, lanes, false);
-    lift(s, l, b, a, step, lows, lanes, 0, highs, false);
+    match kernel {
+        Kernel::S => pairs(l, a, b, step, highs, lanes, undo),
+        Kernel::SPlusP => pairs(l, a, b, step, highs, lanes, undo),
+        Kernel::TT => pairs(l, a, b, step, highs, lanes, undo),
+        Kernel::FiveThree => lift(Step::High, l, b, a, step, lows, lanes, 0, highs, undo),
+    }
 }
 
-// Kernel 3, forward.
-fn forward_five_three(
+// The second step, or that step undone, on the rows d up to e: kernels 1 and 2 take what they predict off the highs, kernel 3 smooths the lows.
+pub fn second_step(
+    kernel: Kernel,
+    undo: bool,
     l: &mut [i32],
     a: usize,
     b: usize,
@@ -253,15 +259,20 @@ fn forward_five_three(
     lows: usize,
     highs: usize,
     lanes: usize,
+    d: usize,
+    e: usize,
 )
-    requires { ⌜ lows ≡ highs ⌝ }
+    requires { ⌜ (d ≤ e) × (e ≤ lows) × (e ≤ highs) ⌝ }
     requires { ⌜ Parts a b step lows highs lanes (length (now l)) ⌝ }
-    requires { ⌜ Bounded (5 * 2 ^ 22) a step lows lanes (now l) ⌝ }
-    requires { ⌜ Bounded (5 * 2 ^ 22) b step highs lanes (now l) ⌝ }
-    ensures { λ _. ⌜ Both (lowsOf FiveThree lows) (highsOf FiveThree lows) a b step lanes 0 lows highs (now (l .entry)) (now (l .exit)) ⌝ }
+    requires { ⌜ SecondTakes kernel a b step lows highs lanes d e (now l) ⌝ }
+    ensures { λ _. ⌜ Both (secondLows undo kernel highs) (secondHighs undo kernel lows) a b step lanes d e e (now (l .entry)) (now (l .exit)) ⌝ }
 {
-    lift(Step::High, l, b, a, step, lows, lanes, 0, highs, false);
-    lift(Step::Low, l, a, b, step, highs, lanes, 0, lows, true);
+    match kernel {
+        Kernel::S => {}
+        Kernel::SPlusP => lift(Step::SPlusP, l, b, a, step, lows, lanes, d, e, undo),
+        Kernel::TT => lift(Step::TT, l, b, a, step, lows, lanes, d, e, undo),
+        Kernel::FiveThree => lift(Step::Low, l, a, b, step, highs, lanes, d, e, !undo),
+    }
 }
 
 // The transforms of `lanes` lines, whose evens stand at a and whose odds at b: the lows take the evens' place, the highs the odds'.
@@ -281,64 +292,8 @@ pub fn forward(
     requires { ⌜ Bounded (5 * 2 ^ 22) b step highs lanes (now l) ⌝ }
     ensures { λ _. ⌜ Both (lowsOf kernel lows) (highsOf kernel lows) a b step lanes 0 lows highs (now (l .entry)) (now (l .exit)) ⌝ }
 {
-    match kernel {
-        Kernel::S => pairs(l, a, b, step, highs, lanes, false),
-        Kernel::SPlusP => forward_pairs(Step::SPlusP, l, a, b, step, lows, highs, lanes),
-        Kernel::TT => forward_pairs(Step::TT, l, a, b, step, lows, highs, lanes),
-        Kernel::FiveThree => forward_five_three(l, a, b, step, lows, highs, lanes),
-    }
-}
-
-// The first step of the way back, on the rows d up to e: what kernels 1 and 2 predict is added to the highs, what kernel 3 adds to the evens is
-// taken off.
-pub fn begin_rows(
-    kernel: Kernel,
-    l: &mut [i32],
-    a: usize,
-    b: usize,
-    step: usize,
-    lows: usize,
-    highs: usize,
-    lanes: usize,
-    d: usize,
-    e: usize,
-)
-    requires { ⌜ (d ≤ e) × (e ≤ lows) × (e ≤ highs) ⌝ }
-    requires { ⌜ Parts a b step lows highs lanes (length (now l)) ⌝ }
-    requires { ⌜ Begins kernel a b step lows highs lanes d e (now l) ⌝ }
-    ensures { λ _. ⌜ Both (begunFirst kernel highs) (begunSecond kernel lows) a b step lanes d e e (now (l .entry)) (now (l .exit)) ⌝ }
-{
-    match kernel {
-        Kernel::S => {}
-        Kernel::SPlusP => lift(Step::SPlusP, l, b, a, step, lows, lanes, d, e, true),
-        Kernel::TT => lift(Step::TT, l, b, a, step, lows, lanes, d, e, true),
-        Kernel::FiveThree => lift(Step::Low, l, a, b, step, highs, lanes, d, e, false),
-    }
-}
-
-// The last step, on all rows of highs and as many rows of lows; it looks at the rows of lows behind them.
-pub fn end_rows(
-    kernel: Kernel,
-    l: &mut [i32],
-    a: usize,
-    b: usize,
-    step: usize,
-    lows: usize,
-    highs: usize,
-    lanes: usize,
-)
-    requires { ⌜ (0 < highs) × (highs ≤ lows) ⌝ }
-    requires { ⌜ Parts a b step lows highs lanes (length (now l)) ⌝ }
-    requires { ⌜ Bounded (2 ^ 29) a step lows lanes (now l) ⌝ }
-    requires { ⌜ Bounded (2 ^ 29) b step highs lanes (now l) ⌝ }
-    ensures { λ _. ⌜ Both (endedFirst kernel) (endedSecond kernel lows) a b step lanes 0 highs highs (now (l .entry)) (now (l .exit)) ⌝ }
-{
-    match kernel {
-        Kernel::S => pairs(l, a, b, step, highs, lanes, true),
-        Kernel::SPlusP => pairs(l, a, b, step, highs, lanes, true),
-        Kernel::TT => pairs(l, a, b, step, highs, lanes, true),
-        Kernel::FiveThree => lift(Step::High, l, b, a, step, lows, lanes, 0, highs, true),
-    }
+    first_step(kernel, false, l, a, b, step, lows, highs, lanes);
+    second_step(kernel, false, l, a, b, step, lows, highs, lanes, 0, highs);
 }
 
 // The way back: the lows of `lanes` lines stand at a, their highs at b, and the lines' evens and odds take their place.
@@ -358,6 +313,6 @@ pub fn back(
     requires { ⌜ Bounded (2 ^ 24) b step highs lanes (now l) ⌝ }
     ensures { λ _. ⌜ Both (line.undoneEvens kernel lows) (line.undoneOdds kernel lows) a b step lanes 0 lows highs (now (l .entry)) (now (l .exit)) ⌝ }
 {
-    begin_rows(kernel, l, a, b, step, lows, highs, lanes, 0, highs);
-    end_rows(kernel, l, a, b, step, lows, highs, lanes);
+    second_step(kernel, true, l, a, b, step, lows, highs, lanes, 0, highs);
+    first_step(kernel, true, l, a, b, step, lows, highs, lanes);
 }

@@ -13,13 +13,13 @@ use Rattle.line.specs.Transform.{back}
 use Rattle.line.proofs.Local.{back-local}
 use Rattle.grid.specs.Buffer.{strided, InBuffer, Lines}
 use Rattle.lifting.specs.Parts.{Parts, Both}
-use Rattle.lifting.specs.Lines.{endedFirst, endedSecond}
+use Rattle.lifting.specs.Lines.{firstLows, firstHighs}
 use Rattle.passes.specs.Passes.{Takes}
 use Rattle.passes.specs.Pairs.{endedRow, PairBack}
 use Rattle.passes.proofs.Running.{takes-agree}
 
 module _ (k : Kernel) (M s t w : ℕ) {l l₁ : List ℤ} (some : 0 < M) (g : Parts s (s + t) (2 * t) M 1 w (length l)) (even : w % 2 ≡ 0) (wide : w ≤ t)
-    (f : Both (endedFirst k) (endedSecond k M) s (s + t) (2 * t) w 0 1 1 l l₁) where
+    (f : Both (firstLows true k) (firstHighs true k M) s (s + t) (2 * t) w 0 1 1 l l₁) where
   ended-low : (x : ℕ) → x < w → cell l₁ (s + x) ≡ endedRow false k M s t l x
   ended-low x h = ap (cell l₁) (omega arith) ∙ f .first 0 x (omega arith) (omega arith) h
 

@@ -1,11 +1,11 @@
 -- The way back of a level, pair after pair of rows.
 --
 --   planeAt R m c i x   == number x of the low row, or of the high row, of pair i of the level R, as it is placed
---   begunAt k R m c i x == after the first step of the columns
---   endedAt k R m c i x == after their last step
+--   begunAt k R m c i x == after the second step of the columns is undone
+--   endedAt k R m c i x == after their first step is undone as well
 --   Changed S w d f l l′ == l′ is l but for the pairs d up to f
 --   Rolled k R m S w u e b q l
---                       == so far l is u with its first e pairs taken back, those up to b after the first step, and those up to q placed
+--                       == so far l is u with its first e pairs taken back, those up to b begun, and those up to q placed
 --
 -- Assumes nothing.
 use mathlib.Core.Path.{_≡_, refl, sym, ap, _∙_}
@@ -26,8 +26,8 @@ use Rattle.grid.specs.Picture.{Picture, rowPass, turned, colPass}
 use Rattle.grid.proofs.Passes.{row-of, col-of}
 use Rattle.grid.proofs.Parted.{row-cell}
 use Rattle.lifting.specs.Parts.{lane, Parts, Bounded, Both}
-use Rattle.lifting.specs.Lines.{begunFirst, begunSecond, endedFirst, endedSecond, Begins}
-use Rattle.lifting.proofs.TwoSteps.{ended-behind, ended-first, ended-second, begun-first, begun-second, Holds, holds, begins, begun-there}
+use Rattle.lifting.specs.Lines.{secondLows, secondHighs, firstLows, firstHighs, SecondTakes}
+use Rattle.lifting.proofs.TwoSteps.{undone-first, undone-second, undone-behind, Holds, holds, takes, undone-there, undone-lows, undone-highs}
 use Rattle.passes.specs.Passes.{Takes, Area}
 use Rattle.passes.specs.Pairs.{endedRow, PairBack, PairsPlaced}
 use Rattle.passes.specs.Levels.{levelOf, LevelBack}
@@ -41,12 +41,12 @@ planeAt R m false i x = R i x
 planeAt R m true i x = R (m + i) x
 
 abbrev pub begunAt : Kernel → Picture ℤ → ℕ → Bool → ℕ → Line ℤ
-begunAt k R m false i x = begunFirst k m (λ n. R n x) (λ n. R (m + n) x) i
-begunAt k R m true i x = begunSecond k m (λ n. R n x) (λ n. R (m + n) x) i
+begunAt k R m false i x = secondLows true k m (λ n. R n x) (λ n. R (m + n) x) i
+begunAt k R m true i x = secondHighs true k m (λ n. R n x) (λ n. R (m + n) x) i
 
 abbrev pub endedAt : Kernel → Picture ℤ → ℕ → Bool → ℕ → Line ℤ
-endedAt k R m false i x = endedFirst k (λ n. begunAt k R m false n x) (λ n. begunAt k R m true n x) i
-endedAt k R m true i x = endedSecond k m (λ n. begunAt k R m false n x) (λ n. begunAt k R m true n x) i
+endedAt k R m false i x = firstLows true k (λ n. begunAt k R m false n x) (λ n. begunAt k R m true n x) i
+endedAt k R m true i x = firstHighs true k m (λ n. begunAt k R m false n x) (λ n. begunAt k R m true n x) i
 
 pub record Changed (S w d f : ℕ) (l l′ : List ℤ) : Type 0 where
   pub size : length l′ ≡ length l
@@ -165,11 +165,11 @@ module _ {k : Kernel} {R : Picture ℤ} {m S w n b q f : ℕ} (u l : List ℤ) (
       (λ i a. (begun-row false x i h a, begun-row true x i h a)) (λ i a d. (placed-row false x i h a d, placed-row true x i h a d))
 
   pub rows-begin : ((x : ℕ) → x < w → AllWithin (2 ^ 28) m (λ i. R i x)) → ((x : ℕ) → x < w → AllWithin (2 ^ 24) m (λ i. R (m + i) x))
-      → Begins k (at S false n) (at S true n) (2 * S) (q - n) (q - n) w (b - n) (f - n) l
-  rows-begin lows highs = begins (at S false n) (at S true n) (2 * S) (q - n) w (b - n) (f - n) l m n (λ x i. R i x) (λ x i. R (m + i) x) (omega arith) (omega arith) lows highs
+      → SecondTakes k (at S false n) (at S true n) (2 * S) (q - n) (q - n) w (b - n) (f - n) l
+  rows-begin lows highs = takes (at S false n) (at S true n) (2 * S) (q - n) w (b - n) (f - n) l m n (λ x i. R i x) (λ x i. R (m + i) x) (omega arith) (omega arith) lows highs
       (λ i x a d h. (placed-row false x i h a (omega arith), placed-row true x i h a (omega arith))) k rows-hold
 
-  module _ {l′ : List ℤ} (back-far : b < f → n ≤ b - 2) (ahead : min (f + 2) m ≤ q) (t : Both (begunFirst k (q - n)) (begunSecond k (q - n)) (at S false n) (at S true n) (2 * S) w (b - n) (f - n) (f - n) l l′) where
+  module _ {l′ : List ℤ} (back-far : b < f → n ≤ b - 2) (ahead : min (f + 2) m ≤ q) (t : Both (secondLows true k (q - n)) (secondHighs true k (q - n)) (at S false n) (at S true n) (2 * S) w (b - n) (f - n) (f - n) l l′) where
     pub begun-changed : Changed S w b f l l′
     begun-changed = record {
       size = t .size;
@@ -179,10 +179,10 @@ module _ {k : Kernel} {R : Picture ℤ} {m S w n b q f : ℕ} (u l : List ℤ) (
     }
 
     begun-here : (x i : ℕ) → x < w → b - n ≤ i → i < f - n
-        → (begunFirst k (q - n) (row false x) (row true x) i ≡ begunAt k R m false (n + i) x) × (begunSecond k (q - n) (row false x) (row true x) i ≡ begunAt k R m true (n + i) x)
+        → (secondLows true k (q - n) (row false x) (row true x) i ≡ begunAt k R m false (n + i) x) × (secondHighs true k (q - n) (row false x) (row true x) i ≡ begunAt k R m true (n + i) x)
     begun-here x i h a d =
         let far = back-far (omega arith) in
-        begun-there k m n (q - n) i (λ i. R i x) (λ i. R (m + i) x) (row false x) (row true x) (omega arith) (omega arith) (omega arith) (omega arith) (rows-hold x h)
+        undone-there k m n (q - n) i (λ i. R i x) (λ i. R (m + i) x) (row false x) (row true x) (omega arith) (omega arith) (omega arith) (omega arith) (rows-hold x h)
         (placed-row false x i h a (omega arith)) (placed-row true x i h a (omega arith))
 
     pub begun-new : (c : Bool) (i x : ℕ) → b ≤ i → i < f → x < w → cell l′ (at S c i + x) ≡ begunAt k R m c i x
@@ -198,7 +198,7 @@ module _ {k : Kernel} {R : Picture ℤ} {m S w n b q : ℕ} (u l : List ℤ) (nb
   window-row c x h i a = lane-at S c n i x l ∙ r .begun c (n + i) x (omega arith) (omega arith) h
 
   ended-both : (x : ℕ) → x < w → (endedRow false k (b - n) (at S false n) S l x ≡ endedAt k R m false n x) × (endedRow true k (b - n) (at S false n) S l x ≡ endedAt k R m true n x)
-  ended-both x h = ended-behind k m n (b - n) (λ i. begunAt k R m false i x) (λ i. begunAt k R m true i x) _ _ (omega arith) (omega arith) (omega arith) (window-row false x h) (window-row true x h)
+  ended-both x h = undone-behind k m n (b - n) (λ i. begunAt k R m false i x) (λ i. begunAt k R m true i x) _ _ (omega arith) (omega arith) (omega arith) (window-row false x h) (window-row true x h)
 
   pub ended-is : (c : Bool) (x : ℕ) → x < w → endedRow c k (b - n) (at S false n) S l x ≡ endedAt k R m c n x
   ended-is false x h = ended-both x h .0
@@ -206,10 +206,10 @@ module _ {k : Kernel} {R : Picture ℤ} {m S w n b q : ℕ} (u l : List ℤ) (nb
 
   module _ (lows : (x : ℕ) → x < w → AllWithin (2 ^ 28) m (λ i. R i x)) (highs : (x : ℕ) → x < w → AllWithin (2 ^ 24) m (λ i. R (m + i) x)) where
     pub lows-near : Bounded (2 ^ 29) (at S false n) (2 * S) (b - n) w l
-    lows-near = record { each = λ x h i a. rw (window-row false x h i a) (begun-first m _ _ (lows x h) (highs x h) k (n + i) (omega arith)) }
+    lows-near = record { each = λ x h i a. rw (window-row false x h i a) (undone-lows m _ _ (lows x h) (highs x h) k (n + i) (omega arith)) }
 
     pub highs-near : Bounded (2 ^ 29) (at S true n) (2 * S) (b - n) w l
-    highs-near = record { each = λ x h i a. rw (window-row true x h i a) (begun-second m _ _ (lows x h) (highs x h) k (n + i) (omega arith)) }
+    highs-near = record { each = λ x h i a. rw (window-row true x h i a) (undone-highs m _ _ (lows x h) (highs x h) k (n + i) (omega arith)) }
 
   module _ {l′ : List ℤ} (even : w % 2 ≡ 0) (t : PairBack k (b - n) (at S false n) S w l l′) where
     pub ended-changed : Changed S w n (n + 1) l l′
@@ -233,10 +233,10 @@ module _ (w h : ℕ) (k : Kernel) (R : Picture ℤ) (even : h % 2 ≡ 0) where
   -- the columns of a pair that is ended are taken back
   pub ended-column : (c : Bool) (i x : ℕ) → i < h / 2 → x < w → endedAt k R (h / 2) c i x ≡ colPass (back k) w h R (2 * i + bit c) x
   ended-column false i x a b =
-      ended-first k (h / 2) (λ n. R n x) (λ n. R (h / 2 + n) x) i a ∙ sym (back-even h k (turned R x) i) ∙ ap (back k h (turned R x)) (omega arith)
+      undone-first k (h / 2) (λ n. R n x) (λ n. R (h / 2 + n) x) i a ∙ sym (back-even h k (turned R x) i) ∙ ap (back k h (turned R x)) (omega arith)
       ∙ sym (row-cell (back k) h w x (2 * i + 0) (turned R) b (omega arith))
   ended-column true i x a b =
-      ended-second k (h / 2) (λ n. R n x) (λ n. R (h / 2 + n) x) i a ∙ sym (back-odd h k (turned R x) i) ∙ sym (row-cell (back k) h w x (2 * i + 1) (turned R) b (omega arith))
+      undone-second k (h / 2) (λ n. R n x) (λ n. R (h / 2 + n) x) i a ∙ sym (back-odd h k (turned R x) i) ∙ sym (row-cell (back k) h w x (2 * i + 1) (turned R) b (omega arith))
 
   pub ended-takes : w % 2 ≡ 0 → (c : Bool) (i : ℕ) {X : Line ℤ} → i < h / 2 → ((x : ℕ) → x < w → X x ≡ endedAt k R (h / 2) c i x) → ((y : ℕ) → y < h → Takes true w (colPass (back k) w h R y)) → Takes true w X
   ended-takes even-w false i a e all = takes-agree true w _ _ even-w (λ x b. sym (e x b ∙ ended-column false i x a b)) (all (2 * i + 0) (omega arith))

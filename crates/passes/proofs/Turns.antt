@@ -1,4 +1,5 @@
--- One turn of a level's way back: pairs are placed and begun ahead, and a pair is ended.
+-- One turn of a level's way back: pairs are placed and begun ahead, which undoes the second step of their columns, and a pair is ended, which undoes
+-- the first.
 --
 --   Ahead m n b q == pairs are begun up to b and placed up to q, of m, when the first n are taken back
 --   begunTo m n   == how far pairs are begun, of m, when pair n is ended
@@ -16,7 +17,7 @@ use Rattle.kernel.specs.declared.Kernel.{Kernel}
 use Rattle.line.specs.Transform.{back}
 use Rattle.grid.specs.Picture.{turned, colPass}
 use Rattle.lifting.specs.Parts.{Bounded, Both}
-use Rattle.lifting.specs.Lines.{begunFirst, begunSecond, Begins}
+use Rattle.lifting.specs.Lines.{secondLows, secondHighs, SecondTakes}
 use Rattle.lifting.proofs.Rows.{bounded-fewer}
 use Rattle.passes.specs.Passes.{Takes, Area}
 use Rattle.passes.specs.Pairs.{endedRow, PairBack, PairsPlaced}
@@ -80,11 +81,11 @@ module _ (k : Kernel) (W S w h : ℕ) (p u : List ℤ) (y : Area W w h (length p
     after-place = let a = ahead-more lt s x v in
         place-more (z .wide) r (s .near) (s .order) (more-placed lt s x v) (a .top) (placed-changed p u l l₁ y (z .wide) r t) (placed-new p u l l₁ y (z .wide) r t (a .top))
 
-    pub begin-asks : Begins k (at S false n) (at S true n) (2 * S) (g - n) (g - n) w (b - n) (f - n) l₁
+    pub begin-asks : SecondTakes k (at S false n) (at S true n) (2 * S) (g - n) (g - n) w (b - n) (f - n) l₁
     begin-asks = let a = ahead-more lt s x v in
         rows-begin u l₁ (s .near) (more-begun lt s x v) (a .order) (a .top) after-place (λ j h. cols j h .takes .0) (λ j h. cols j h .takes .1)
 
-    module _ {l₂ : List ℤ} (t₂ : Both (begunFirst k (g - n)) (begunSecond k (g - n)) (at S false n) (at S true n) (2 * S) w (b - n) (f - n) (f - n) l₁ l₂) where
+    module _ {l₂ : List ℤ} (t₂ : Both (secondLows true k (g - n)) (secondHighs true k (g - n)) (at S false n) (at S true n) (2 * S) w (b - n) (f - n) (f - n) l₁ l₂) where
       after-begin : Rolled k (levelOf W S w h p u) (h / 2) S w u n f g l₂
       after-begin = let a = ahead-more lt s x v in let bf = more-begun lt s x v in let far = far-back lt s x v in let near = begin-ahead lt s x v in
           begin-more (z .wide) after-place (s .near) bf (a .order) (a .top)

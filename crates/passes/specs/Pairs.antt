@@ -2,7 +2,7 @@
 --
 --   PairsPlaced W S w m a b p u u′
 --                               == u′ is u with pairs a up to b from the plane p of rows of W, with m rows of lows: the right part of the low row, and the high row
---   endedRow high k M s t l     == the row at s, or the one t behind it, after the last step of its columns, of which M lows are left
+--   endedRow high k M s t l     == the row at s, or the one t behind it, after the first step of its columns is undone, of which M lows are left
 --   PairBack k M s t w l l′     == l′ is l with both rows of w numbers after that taken back
 --
 -- Assumes nothing: these are definitions.
@@ -17,11 +17,11 @@ use Rattle.line.specs.Cells.{Line, cell}
 use Rattle.line.specs.Transform.{back}
 use Rattle.grid.specs.Picture.{lowSide}
 use Rattle.lifting.specs.Parts.{lane}
-use Rattle.lifting.specs.Lines.{endedFirst, endedSecond}
+use Rattle.lifting.specs.Lines.{firstLows, firstHighs}
 
 abbrev pub endedRow : Bool → Kernel → ℕ → ℕ → ℕ → List ℤ → Line ℤ
-endedRow false k M s t l x = endedFirst k (lane s (2 * t) l x) (lane (s + t) (2 * t) l x) 0
-endedRow true k M s t l x = endedSecond k M (lane s (2 * t) l x) (lane (s + t) (2 * t) l x) 0
+endedRow false k M s t l x = firstLows true k (lane s (2 * t) l x) (lane (s + t) (2 * t) l x) 0
+endedRow true k M s t l x = firstHighs true k M (lane s (2 * t) l x) (lane (s + t) (2 * t) l x) 0
 
 pub record PairBack (k : Kernel) (M s t w : ℕ) (l l′ : List ℤ) : Type 0 where
   pub size : length l′ ≡ length l

@@ -144,7 +144,8 @@ fn place_pairs(
     );
 }
 
-// Of the `lows` rows of lows from `at` on, a row of highs behind each: ends the columns of the first pair of rows, and takes both rows back.
+// Of the `lows` rows of lows from `at` on, a row of highs behind each: undoes the first step of the columns of the first pair of rows, and takes both
+// rows back.
 fn pair_back(
     kernel: Kernel,
     l: &mut [i32],
@@ -161,14 +162,14 @@ fn pair_back(
     requires { ⌜ Takes true w (endedRow false kernel lows at stride (now l)) × Takes true w (endedRow true kernel lows at stride (now l)) ⌝ }
     ensures { λ _. ⌜ PairBack kernel lows at stride w (now (l .entry)) (now (l .exit)) ⌝ }
 {
-    lifting::end_rows(kernel, l, at, at + stride, 2 * stride, lows, 1, w);
+    lifting::first_step(kernel, true, l, at, at + stride, 2 * stride, lows, 1, w);
     row(kernel, true, l, q, at, w);
     row(kernel, true, l, q, at + stride, w);
 }
 
-// A level's way back, from the plane and from what every other row of l holds of the levels below. Pairs of rows are placed, two pairs behind
-// their columns' first step is done, and two pairs behind that their last step and the rows, all while they are in the cache: the first
-// step of kernel 2 looks two rows back and ahead.
+// A level's way back, from the plane and from what every other row of l holds of the levels below. Pairs of rows are placed, two pairs behind the
+// second step of their columns is undone, and two pairs behind that the first step, and both rows are taken back, all while they are in the
+// cache: the second step of kernel 2 looks two rows back and ahead.
 pub fn level_back(
     kernel: Kernel,
     plane: &[i32],
@@ -195,8 +196,9 @@ pub fn level_back(
         let to_begin = whole::least(n + 3, highs);
         let at = 2 * n * stride;
         place_pairs(plane, l, width, stride, w, lows, placed, to_place);
-        lifting::begin_rows(
+        lifting::second_step(
             kernel,
+            true,
             l,
             at,
             at + stride,

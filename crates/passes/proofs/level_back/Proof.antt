@@ -63,13 +63,13 @@ level-back-spec =
       (parts-as (parts-at (i .n) _ _ (s .pre .1 .0) (omega (arith, ahead t .order, ahead t .near, ahead t .top)) (omega (arith, ahead t .order, ahead t .near, ahead t .top))) (p .size ∙ i .inv .3 .size), begin-asks (a .kernel) (a .width) (a .stride) (a .w) (a .h) (a .plane .now) (a .l .now) (s .pre .0) (s .pre .1 .0) (s .pre .1 .1 .1 .0) (s .pre .1 .1 .1 .1) (t .before .before .loop-test .taken) (i .inv .2) (t .least2 .ensures) (t .before .least .ensures) (i .inv .3) p),
     ))
     (λ c. let t = (c .before .before .before .before .before .before .before .before) in omega (arith, ahead t .near))
-    (λ c κs. let t = (c .before .before .before .before .before .before .before .before) in let s = start t in let a = s .args in let i = turn t .loop in let p = rw (even t) at (c .before .before .before .before .before .before .place-pairs .ensures) in let f = c .before .before .before .begin-rows .ensures in let e = end-asks (a .kernel) (a .width) (a .stride) (a .w) (a .h) (a .plane .now) (a .l .now) (s .pre .0) (s .pre .1 .0) (s .pre .1 .1 .1 .0) (s .pre .1 .1 .1 .1) (t .before .before .loop-test .taken) (i .inv .2) (t .least2 .ensures) (t .before .least .ensures) (i .inv .3) p f in (
+    (λ c κs. let t = (c .before .before .before .before .before .before .before .before) in let s = start t in let a = s .args in let i = turn t .loop in let p = rw (even t) at (c .before .before .before .before .before .before .place-pairs .ensures) in let f = c .before .before .before .second-step .ensures in let e = end-asks (a .kernel) (a .width) (a .stride) (a .w) (a .h) (a .plane .now) (a .l .now) (s .pre .0) (s .pre .1 .0) (s .pre .1 .1 .1 .0) (s .pre .1 .1 .1 .1) (t .before .before .loop-test .taken) (i .inv .2) (t .least2 .ensures) (t .before .least .ensures) (i .inv .3) p f in (
       (omega (arith, ahead t .near), parts-as (parts-at (i .n) _ 1 (s .pre .1 .0) (omega (arith, ahead t .order, ahead t .near, ahead t .top)) (omega arith)) (f .size ∙ p .size ∙ i .inv .3 .size)),
       ((s .pre .0 .even-w, s .pre .0 .w-most, omega (arith, i .inv .0, s .pre .1 .1 .0), s .pre .1 .0 .wide), (e .0, (e .1, (e .2, e .3)))),
     ))
     (λ c. omega (arith, start (c .before .before .before .before .before .before .before .before .before .before .before) .pre .0 .h-most))
     (λ c. omega arith)
-    (λ c. let t = (c .before .before .before .before .before .before .before .before .before .before .before) in let s = start t in let a = s .args in let i = turn t .loop in let p = rw (even t) at (c .before .before .before .before .before .before .before .before .before .place-pairs .ensures) in let f = c .before .before .before .before .before .before .begin-rows .ensures in
+    (λ c. let t = (c .before .before .before .before .before .before .before .before .before .before .before) in let s = start t in let a = s .args in let i = turn t .loop in let p = rw (even t) at (c .before .before .before .before .before .before .before .before .before .place-pairs .ensures) in let f = c .before .before .before .before .before .before .second-step .ensures in
     (c .before .before .pair-back .kept .1 .1 .0 ∙ i .inv .0, omega arith, ahead t, after-end (a .kernel) (a .width) (a .stride) (a .w) (a .h) (a .plane .now) (a .l .now) (s .pre .0) (s .pre .1 .0) (s .pre .1 .1 .1 .0) (s .pre .1 .1 .1 .1) (t .before .before .loop-test .taken) (i .inv .2) (t .least2 .ensures) (t .before .least .ensures) (i .inv .3) p f (c .before .before .pair-back .ensures)))
     (λ c. c .before .loop .inv .3 .size)
     (λ c. c .before .loop .inv .0)

@@ -11,11 +11,11 @@ pair-back-spec =
     (λ c. let g = c .before .pre .0 .1 in omega (arith, g .second .place 0 0 (omega arith) (g .lines)))
     (λ c. let g = c .before .pre .0 .1 in omega (arith, g .second .place 0 0 (omega arith) (g .lines)))
     (λ c κs. let s = c .before in ((omega arith, s .pre .0 .0), (s .pre .0 .1, (s .pre .1 .1 .0, s .pre .1 .1 .1 .0))))
-    (λ c κs. let s = c .before .before .before .before .before in let a = s .args in let some = s .pre .0 .0 in let g = s .pre .0 .1 in let v = s .pre .1 .0 in let f = c .before .before .before .end-rows .ensures in
+    (λ c κs. let s = c .before .before .before .before .before in let a = s .args in let some = s .pre .0 .0 in let g = s .pre .0 .1 in let v = s .pre .1 .0 in let f = c .before .before .before .first-step .ensures in
     ((g .lines, v .0, omega (arith, v), v .2), (low-inside (a .kernel) (a .lows) (a .at) (a .stride) (a .w) some g (v .0) (v .3) f, low-takes (a .kernel) (a .lows) (a .at) (a .stride) (a .w) some g (v .0) (v .3) f (s .pre .1 .1 .1 .1 .0))))
     (λ c. let g = c .before .before .before .before .before .before .before .before .before .before .pre .0 .1 in omega (arith, g .second .place 0 0 (omega arith) (g .lines)))
-    (λ c κs. let s = c .before .before .before .before .before .before .before .before .before .before in let a = s .args in let some = s .pre .0 .0 in let g = s .pre .0 .1 in let v = s .pre .1 .0 in let f = c .before .before .before .before .before .before .before .before .end-rows .ensures in let p = c .before .before .before .before .row .ensures in
+    (λ c κs. let s = c .before .before .before .before .before .before .before .before .before .before in let a = s .args in let some = s .pre .0 .0 in let g = s .pre .0 .1 in let v = s .pre .1 .0 in let f = c .before .before .before .before .before .before .before .before .first-step .ensures in let p = c .before .before .before .before .row .ensures in
     ((g .lines, v .0, omega (arith, v), omega (arith, v, c .before .before .before .before .row .kept .1 .1 .1 .0)), (high-inside (a .kernel) (a .lows) (a .at) (a .stride) (a .w) some g (v .0) (v .3) f p, high-takes (a .kernel) (a .lows) (a .at) (a .stride) (a .w) some g (v .0) (v .3) f p (s .pre .1 .1 .1 .1 .1))))
     (λ c. search needs)
     (λ c. search needs)
-    (λ c. let s = c .before .before .before .before .before .before .before .before .before .before .before .before .before in let a = s .args in let some = s .pre .0 .0 in let g = s .pre .0 .1 in let v = s .pre .1 .0 in pair-back (a .kernel) (a .lows) (a .at) (a .stride) (a .w) some g (v .0) (v .3) (c .before .before .before .before .before .before .before .before .before .before .before .end-rows .ensures) (c .before .before .before .before .before .before .before .row .ensures) (c .before .before .row2 .ensures)))
+    (λ c. let s = c .before .before .before .before .before .before .before .before .before .before .before .before .before in let a = s .args in let some = s .pre .0 .0 in let g = s .pre .0 .1 in let v = s .pre .1 .0 in pair-back (a .kernel) (a .lows) (a .at) (a .stride) (a .w) some g (v .0) (v .3) (c .before .before .before .before .before .before .before .before .before .before .before .first-step .ensures) (c .before .before .before .before .before .before .before .row .ensures) (c .before .before .row2 .ensures)))
