@@ -1,5 +1,5 @@
 -- From tested buffers to what one level asks, and from its picture to the filled buffer. Assumes nothing.
-use mathlib.Core.Path.{_≡_, sym, ap, subst, _∙_}
+use mathlib.Core.Path.{_≡_, sym, ap, _∙_}
 use mathlib.Core.Bool.{true}
 use mathlib.Core.List.{List}
 use Prim.Native.Nat.{ℕ, _*_, _-_, _+_, _/_, _%_, _^_, _<_, _≤_}

@@ -7,7 +7,7 @@ use native.Mathlib.Omega.{arith}
 use lib.Dec.{ltb, eqb}
 use borrow.Author.Tests.{lt-ltb, le-ltb, eq-eqb, ne-eqb}
 use Rattle.line.specs.Cells.{choose}
-use Rattle.refusal.specs.Numbers.{test, first}
+use Rattle.refusal.specs.Numbers.{first}
 use Rattle.refusal.specs.Tests.{badLength, badNumbers, badRectangles}
 use Rattle.refusal.proofs.Ordered.{here, next, is, isnt, numbered, first-append}
 use Rattle.header.specs.Header.{number, badHeader, badVersion}

@@ -5,7 +5,7 @@ use mathlib.Core.List.{List, _++_}
 use Prim.Native.Nat.{ℕ, _+_, _-_, _/_, _<_, _≤_}
 use native.Mathlib.Omega.{arith}
 use lib.IntN.{ℤ, pos}
-use lib.ListN.{length, getD, take}
+use lib.ListN.{getD, take}
 use borrow.Author.Tests.{eq-eqb, eqb-true}
 use Rattle.line.specs.Cells.{listed}
 use Rattle.line.proofs.Lists.{listed-cell}
@@ -21,7 +21,7 @@ use Rattle.header.specs.Header.{frontLength, bodyTests, bodyOf}
 use Rattle.header.specs.Fields.{Shot, shotOf}
 use Rattle.shot.specs.Shots.{shotMask, marks, settingTests, rectangleTests}
 use Rattle.codestream.specs.Stream.{area, markedPasses}
-use Rattle.codestream.specs.Reading.{answerOf, planeOf, badPlanes, readTests, readNumbers}
+use Rattle.codestream.specs.Reading.{answerOf, planeOf, badPlanes, readTests}
 use Rattle.codestream.specs.Cutting.{cutTo, cutTests, Bytes}
 use Rattle.codestream.proofs.Accepted.{taken, setting-passed}
 use Rattle.codestream.proofs.Lengths.{shot-mask-length}

@@ -27,7 +27,7 @@ use Rattle.runs.specs.declared.Step.the-variants.{SPlusP, TT, High, Low}
 use Rattle.lifting.specs.Parts.{lane, Parts, Bounded, Both}
 use Rattle.lifting.specs.Steps.{amount, movedRow, EndToEnd, Fit, Lifted}
 use Rattle.lifting.specs.Lines.{pairFirst, pairSecond, firsts, seconds, PairFit, Pairable, RowsWithin}
-use Rattle.lifting.proofs.Rows.{row-place, row-in, line-in, run-place, same-row, parts-swap, parts-as, rows-other}
+use Rattle.lifting.proofs.Rows.{row-place, row-in, line-in, run-place, same-row, parts-swap, rows-other}
 use Rattle.lifting.proofs.Lifts.{amount-local}
 
 abbrev pub Local : ℕ → ℕ → ℕ → (Line ℤ → Line ℤ → Line ℤ) → Type 0

@@ -21,10 +21,8 @@ use Rattle.line.proofs.Border.{inside-in, window-before, window-after}
 use Rattle.line.proofs.Bounds.{mean-within, difference-within, within-more}
 use Rattle.line.proofs.Cells.{by-lt, paired-even, paired-odd}
 use Rattle.line.proofs.Local.{predict-reach, update-local}
-use Rattle.steps.specs.Moved.{moved}
 use Rattle.runs.specs.declared.Step.the-variants.{SPlusP, TT, High, Low}
 use Rattle.lifting.specs.Parts.{lane, Bounded, Both}
-use Rattle.lifting.specs.Steps.{amount}
 use Rattle.lifting.specs.Lines.{pairFirst, pairSecond, firsts, seconds, RowsWithin, firstLows, firstHighs, secondLows, secondHighs, SecondTakes, lowsOf, highsOf}
 use Rattle.lifting.proofs.Stages.{Local, both-as, both-then, moved-within, amount-within, first-local, second-local, moves-second-local, moves-first-local}
 

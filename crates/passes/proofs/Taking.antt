@@ -3,7 +3,7 @@
 --   Halved l s t w c q == q has the evens of c lines of w numbers of l in front, in rows of c, and their odds behind
 --
 -- Assumes nothing.
-use mathlib.Core.Path.{_≡_, sym, ap, subst, _∙_}
+use mathlib.Core.Path.{_≡_, ap, subst, _∙_}
 use mathlib.Core.Bool.{true, false}
 use mathlib.Core.List.{List}
 use Prim.Native.Nat.{ℕ, _+_, _*_, _-_, _/_, _%_, _^_, _<_, _≤_}
@@ -19,7 +19,7 @@ use Rattle.line.proofs.Cells.{by-lt, by-parity}
 use Rattle.line.proofs.Local.{forward-local, back-local}
 use Rattle.grid.specs.Buffer.{strided, InBuffer, Lines}
 use Rattle.grid.specs.Picture.{lowSide}
-use Rattle.grid.specs.Placed.{parted, woven}
+use Rattle.grid.specs.Placed.{woven}
 use Rattle.grid.proofs.Parted.{woven-even, woven-odd, parted-even, parted-odd}
 use Rattle.lifting.specs.Parts.{lane, Parts, Bounded, Both}
 use Rattle.lifting.specs.Lines.{lowsOf, highsOf}

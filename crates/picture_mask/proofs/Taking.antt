@@ -9,11 +9,11 @@ use lib.ListN.{length}
 use Rattle.kernel.specs.declared.Kernel.{Kernel}
 use Rattle.line.specs.Inner.{Agree}
 use Rattle.line.specs.Cells.{Line}
-use Rattle.line.specs.Mask.{lowMark, highMark, maskLine, marked, byteOf}
+use Rattle.line.specs.Mask.{maskLine, marked, byteOf}
 use Rattle.line.proofs.Cells.{by-lt, by-parity, joined-low, joined-high, paired-even, paired-odd}
 use Rattle.grid.specs.Buffer.{strided, Lines}
 use Rattle.grid.specs.Picture.{lowSide}
-use Rattle.grid.specs.Placed.{parted, woven, onWoven}
+use Rattle.grid.specs.Placed.{woven, onWoven}
 use Rattle.grid.proofs.Passes.{factor-pos}
 use Rattle.grid.proofs.Parted.{source, parted-source, woven-even, woven-odd}
 use Rattle.transfer.specs.Parting.{PartedStrip}

@@ -6,7 +6,7 @@
 use mathlib.Core.Path.{_≡_, refl, sym, ap, _∙_}
 use mathlib.Core.Bool.{Bool, true, false, _||_}
 use mathlib.Core.List.{List}
-use Prim.Native.Nat.{ℕ, _+_, _*_, _/_, _%_, _<_, _≤_}
+use Prim.Native.Nat.{ℕ, _+_, _*_, _/_, _<_, _≤_}
 use native.Mathlib.Numerals.{add-one}
 use native.Mathlib.Omega.{arith}
 use native.Mathlib.Nat.{mul-comm, mul-le-mul-right}
@@ -19,8 +19,8 @@ use Rattle.line.proofs.Marks.{any-elim}
 use Rattle.refusal.specs.Results.{Result}
 use Rattle.refusal.specs.Tests.{badRectangle, badRectangles}
 use Rattle.refusal.proofs.Passed.{neither, none-of, not-any}
-use Rattle.region.specs.Region.{inRectangle, inRegion, regionByte}
-use Rattle.region.specs.Drawing.{Filled, Drawn, Inside}
+use Rattle.region.specs.Region.{inRectangle, inRegion}
+use Rattle.region.specs.Drawing.{Filled, Inside}
 use Rattle.region.proofs.Boxes.{within-elim, box-elim}
 
 pub record Painted (l : List ℕ) (col row : ℕ → ℕ) (r n : ℕ) (m : List ℕ) : Type 0 where

@@ -16,7 +16,7 @@ use lib.Seq.{getD-set-same, getD-set-other}
 use Rattle.line.proofs.Cells.{by-lt}
 use Rattle.line.specs.Cells.{Line}
 use Rattle.line.specs.Inner.{Agree}
-use Rattle.grid.specs.Picture.{Picture, Transform, lowSide, picture}
+use Rattle.grid.specs.Picture.{Transform, lowSide, picture}
 use Rattle.grid.specs.Buffer.{strided, InBuffer, Put, Lines}
 use Rattle.grid.specs.Placed.{parted, woven, onWoven, placed}
 use Rattle.grid.proofs.Passes.{Local, cell}

@@ -3,7 +3,6 @@ use mathlib.Core.Path.{refl}
 use Prim.Native.Nat.{_-_}
 use native.Mathlib.Omega.{arith}
 use borrow.Author.Needs.{needs}
-use lib.ListN.{length}
 use Rattle.encoder.proofs.Outcomes.{too-short, written}
 use Rattle.encoder.proofs.Streams.{bits-most, total-found, marks-found, fit, body-ready, marked-most, stream-laid}
 use Rattle.encoder.proofs.write_masked.Statement.{statement}

@@ -1,5 +1,4 @@
 -- `line_mask::mask_pairs` makes the lows' and highs' marks of kernels 0 to 2. The loop's invariant: the lows have the pairs within the reach k. Assumes nothing.
-use borrow.Author.Needs.{needs}
 use mathlib.Core.Path.{_≡_, refl, ap, _∙_}
 use mathlib.Core.Logic.{⊎-elim}
 use mathlib.Core.List.{List}

@@ -1,6 +1,6 @@
 -- `picture_mask::placed_rows` masks the rows of a placed picture, each in its two parts. Assumes nothing.
 use mathlib.Core.Path.{_≡_}
-use Prim.Native.Nat.{ℕ, _+_, _*_, _-_, _/_, _<_}
+use Prim.Native.Nat.{_+_, _*_, _-_, _/_}
 use native.Mathlib.Omega.{arith}
 use Rattle.grid.specs.Placed.{onWoven}
 use Rattle.grid.proofs.Parted.{on-woven-local}

@@ -1,10 +1,9 @@
 -- `region::rectangle_placed` sets the samples of a rectangle, placed. Assumes nothing.
-use mathlib.Core.Path.{_≡_, ap, _∙_}
+use mathlib.Core.Path.{_≡_}
 use Prim.Native.Nat.{_+_, _*_, _-_, _≤_}
 use native.Mathlib.Nat.{mul-le-mul-right}
 use native.Mathlib.Omega.{arith}
 use lib.ListN.{length}
-use Rattle.grid.specs.Placed.{woven}
 use Rattle.region.specs.Drawing.{DrawnPlaced}
 use Rattle.region.proofs.Placed.{place-lt, placed-none, placed-more}
 use Rattle.region.proofs.rectangle_placed.Statement.{statement}

@@ -1,8 +1,7 @@
 -- `transfer::bytes::place` copies a picture of bytes, placed. The loop's invariant: n of its rows are copied. Assumes nothing.
-use mathlib.Core.Path.{_≡_, refl, _∙_}
-use Prim.Native.Nat.{ℕ, _*_, _-_}
+use mathlib.Core.Path.{_≡_, _∙_}
+use Prim.Native.Nat.{ℕ, _-_}
 use native.Mathlib.Omega.{arith}
-use borrow.Author.Needs.{needs}
 use lib.ListN.{length, length-replicate}
 use Rattle.grid.proofs.Parted.{source}
 use Rattle.transfer.proofs.Parting.{source-at, Placing, placing-none, placing-room, placing-more, placing-all}

@@ -1,6 +1,6 @@
 -- `transfer::bytes::take` takes a strip, its even rows in front. The loop's invariant: n rows are taken. Assumes nothing.
-use mathlib.Core.Path.{_≡_, ap, _∙_}
-use Prim.Native.Nat.{_+_, _*_, _-_, _≤_}
+use mathlib.Core.Path.{_≡_, _∙_}
+use Prim.Native.Nat.{_+_, _*_, _-_}
 use native.Mathlib.Omega.{arith}
 use Rattle.grid.proofs.Parted.{source}
 use Rattle.transfer.proofs.Parting.{source-at, rows-parted, strip-parted}
