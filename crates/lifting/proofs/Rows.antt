@@ -13,6 +13,7 @@ use Rattle.line.proofs.Cells.{by-lt}
 use Rattle.runs.specs.Cells.{Written}
 use Rattle.lifting.specs.Parts.{lane, In, Parts, Bounded, Rows}
 use Rattle.lifting.specs.Steps.{EndToEnd}
+use Rattle.lifting.specs.Lines.{RowsWithin}
 
 -- ---- places
 -- i rows on, where the rows lie end to end
@@ -130,6 +131,9 @@ bounded-more p h = record { each = λ j k n i. within-more (p .each j k n i) h }
 
 pub bounded-fewer : {r a t m c : ℕ} {l : List ℤ} (m′ : ℕ) → Bounded r a t m c l → m′ ≤ m → Bounded r a t m′ c l
 bounded-fewer m′ p h = record { each = λ j k n i. p .each j k n (omega arith) }
+
+pub rows-bounded : {r a t m c d : ℕ} {l : List ℤ} (e : ℕ) → Bounded r a t m c l → e ≤ m → RowsWithin r a t c d e l
+rows-bounded e p h = record { each = λ n j o i k. p .each j k n (omega arith) }
 
 pub bounded-as : {r a t m c : ℕ} {l l′ : List ℤ} → Bounded r a t m c l → ((n j : ℕ) → n < m → j < c → lane a t l′ j n ≡ lane a t l j n) → Bounded r a t m c l′
 bounded-as p e = record { each = λ j k n i. rw (e n j i k) (p .each j k n i) }

@@ -25,7 +25,7 @@ use Rattle.runs.specs.Cells.{Pairs}
 use Rattle.runs.specs.declared.Step.{Step}
 use Rattle.runs.specs.declared.Step.the-variants.{SPlusP, TT, High, Low}
 use Rattle.lifting.specs.Parts.{lane, Parts, Bounded, Both}
-use Rattle.lifting.specs.Steps.{amount, movedRow, EndToEnd, Fit, Lifted}
+use Rattle.lifting.specs.Steps.{amount, EndToEnd, Fit, Lifted}
 use Rattle.lifting.specs.Lines.{pairFirst, pairSecond, firsts, seconds, PairFit, Pairable, RowsWithin}
 use Rattle.lifting.proofs.Rows.{row-place, row-in, line-in, run-place, same-row, parts-swap, rows-other}
 use Rattle.lifting.proofs.Lifts.{amount-local}
@@ -70,14 +70,6 @@ module _ {a b t c p q : ℕ} where
       second = λ n j o h k. rows-other d e g pe (x .rows) n j (omega arith) k;
       off = λ i u v. x .rows .off i u;
     }
-
-  -- and on all rows
-  module _ {s : Step} {add : Bool} {M : ℕ} {l l′ : List ℤ} (g : Parts a b t p q c (length l)) where
-    pub step-second : Lifted s add M c 0 q b a t l l′ → Both (λ A B. A) (λ A B n. moved add (B n) (amount s M A n)) a b t c 0 p q l l′
-    step-second x = rows-second 0 p q (omega arith) (omega arith) g x
-
-    pub step-first : Lifted s add M c 0 p a b t l l′ → Both (λ A B n. moved add (A n) (amount s M B n)) (λ A B. B) a b t c 0 p q l l′
-    step-first x = rows-first 0 p q (omega arith) (omega arith) g x
 
 pub both-none : (a b t c d p q : ℕ) (l : List ℤ) → Both (λ A B. A) (λ A B. B) a b t c d p q l l
 both-none a b t c d p q l = record { size = refl; first = λ n j o h k. refl; second = λ n j o h k. refl; off = λ i x y. refl }
@@ -150,28 +142,17 @@ pub moved-within : (add : Bool) (a b : ℕ) (t p : ℤ) → Within a t → Withi
 moved-within true a b t p v w = add-within a b t p v w
 moved-within false a b t p v w = sub-within a b t p v w
 
--- a step on a part within p, from a part within q
-module _ (s : Step) (add : Bool) {m M c u v t p q : ℕ} {l : List ℤ} (le : m ≤ M) (x : Bounded p u t m c l) (y : Bounded q v t M c l) where
-  pub moved-bound : (j : ℕ) → j < c → AllWithin (p + (q + 1)) m (λ n. movedRow s add M u v t l n j)
-  moved-bound j k n h = moved-within add p (q + 1) _ _ (x .each j k n h) (amount-within s M q (lane v t l j) (y .each j k) n (omega arith))
-
-  pub lift-fit : T (ltb (p + (q + 1)) (2 ^ 31)) → Fit s add M c 0 m u v t l
-  lift-fit fits = record { fits = λ n j o h k. within-fits w32 fits (moved-bound j k n h) }
-
-  pub lift-bounded : {l′ : List ℤ} → Lifted s add M c 0 m u v t l l′ → Bounded (p + (q + 1)) u t m c l′
-  lift-bounded f = record { each = λ j k n h. rw (f .rows .on n j (omega arith) h k) (moved-bound j k n h) }
-
--- on some rows of it
+-- a step on rows within p of a part, from a part within q
 pub rows-fit : (s : Step) (add : Bool) {M c d e u v t p q : ℕ} {l : List ℤ} → e ≤ M → RowsWithin p u t c d e l → Bounded q v t M c l → T (ltb (p + (q + 1)) (2 ^ 31)) → Fit s add M c d e u v t l
 rows-fit s add {M} {v = v} {t = t} {p = p} {q = q} {l = l} le x y fits = record {
   fits = λ n j o h k. within-fits w32 fits (moved-within add p (q + 1) _ _ (x .each n j o h k) (amount-within s M q (lane v t l j) (y .each j k) n (omega arith)));
 }
 
-pub pair-able : (join : Bool) {a b t m c : ℕ} {l : List ℤ} → Bounded (2 ^ 29) a t m c l → Bounded (2 ^ 29) b t m c l → Pairable join a b t c 0 m l
-pair-able false x y = record { each = λ n j o h r. (x .each j r n h, y .each j r n h) }
-pair-able true x y = record {
-  each = λ n j o h r. let f = first-within (2 ^ 29) (2 ^ 29) _ _ (x .each j r n h) (y .each j r n h) in let s = second-within (2 ^ 29) (2 ^ 29) _ _ (x .each j r n h) (y .each j r n h) in
-      (within-fits w32 tt f, within-fits w32 tt s);
+pub pair-able : (join : Bool) {a b t m c d e : ℕ} {l : List ℤ} → e ≤ m → Bounded (2 ^ 29) a t m c l → RowsWithin (2 ^ 29) b t c d e l → Pairable join a b t c d e l
+pair-able false le x y = record { each = λ n j o h r. (x .each j r n (omega arith), y .each n j o h r) }
+pair-able true le x y = record {
+  each = λ n j o h r. let u = x .each j r n (omega arith) in let v = y .each n j o h r in
+      (within-fits w32 tt (first-within (2 ^ 29) (2 ^ 29) _ _ u v), within-fits w32 tt (second-within (2 ^ 29) (2 ^ 29) _ _ u v));
 }
 
 -- ---- the stages are local

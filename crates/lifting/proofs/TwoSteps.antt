@@ -17,10 +17,11 @@ use Rattle.line.specs.Formulas.{mean, difference, firstOf, secondOf, slopeA, be
 use Rattle.line.specs.Inner.{AllWithin, Agree}
 use Rattle.line.specs.Transform.{inside, means, differences, predict, update, pairHigh, low, high, undoneEvens, undoneOdds}
 use Rattle.line.proofs.Back.{add-none, sub-none}
-use Rattle.line.proofs.Border.{inside-in, window-before, window-after}
+use Rattle.line.proofs.Border.{inside-in, after-one, window-before, window-after}
 use Rattle.line.proofs.Bounds.{mean-within, difference-within, within-more}
 use Rattle.line.proofs.Cells.{by-lt, paired-even, paired-odd}
 use Rattle.line.proofs.Local.{predict-reach, update-local}
+use Rattle.steps.specs.Moved.{moved}
 use Rattle.runs.specs.declared.Step.the-variants.{SPlusP, TT, High, Low}
 use Rattle.lifting.specs.Parts.{lane, Bounded, Both}
 use Rattle.lifting.specs.Lines.{pairFirst, pairSecond, firsts, seconds, RowsWithin, firstLows, firstHighs, secondLows, secondHighs, SecondTakes, lowsOf, highsOf}
@@ -56,14 +57,14 @@ module _ (M : ℕ) (A B : Line ℤ) where
   unfolding high
   high-of n h = ap₂ _-ℤ_ (sym (paired-odd A B n)) (predict-reach kernel.FiveThree M n A (evens (paired A B)) h (λ i lt p q. sym (paired-even A B i)))
 
-  done-first : (k : Kernel) → Agree M (secondLows false k M (firstLows false k A B) (firstHighs false k M A B)) (lowsOf k M A B)
+  pub done-first : (k : Kernel) → Agree M (secondLows false k M (firstLows false k A B) (firstHighs false k M A B)) (lowsOf k M A B)
   unfolding low
   done-first kernel.S n h = means-of n
   done-first kernel.SPlusP n h = means-of n
   done-first kernel.TT n h = means-of n
   done-first kernel.FiveThree n h = ap₂ _+ℤ_ (sym (paired-even A B n)) (update-local M n _ (high kernel.FiveThree M (paired A B)) h (λ i lt. high-of i lt))
 
-  done-second : (k : Kernel) → Agree M (secondHighs false k M (firstLows false k A B) (firstHighs false k M A B)) (highsOf k M A B)
+  pub done-second : (k : Kernel) → Agree M (secondHighs false k M (firstLows false k A B) (firstHighs false k M A B)) (highsOf k M A B)
   unfolding high
   done-second kernel.S n h = differences-of n ∙ sym (sub-none M (means (paired A B)) n _)
   done-second kernel.SPlusP n h = pair-high-of kernel.SPlusP n h
@@ -110,23 +111,24 @@ module _ (k : Kernel) {a b t c m : ℕ} {l l′ l″ : List ℤ} where
       → Both (undoneEvens k m) (undoneOdds k m) a b t c 0 m m l l″
   steps-undone f g = both-as (undone-first k m) (undone-second k m) (both-then (first-lows-local true k) (first-highs-local true k) f g)
 
--- the first step looks at the rows behind alone: of the first of v rows from row n on, two or all that are left, it is that of row n of M
-pub undone-behind : (k : Kernel) (M n v : ℕ) (A B A′ B′ : Line ℤ) → 0 < v → n + v ≤ M → min (n + 2) M ≤ n + v → Agree v A′ (λ i. A (n + i)) → Agree v B′ (λ i. B (n + i))
-    → (firstLows true k A′ B′ 0 ≡ firstLows true k A B n) × (firstHighs true k v A′ B′ 0 ≡ firstHighs true k M A B n)
+-- the first step looks at its row and at the next alone: of row r of v rows from row n on, two of them or all that are left, it is that of row n + r
+-- of M
+pub first-there : (undo : Bool) (k : Kernel) (M n v r : ℕ) (A B A′ B′ : Line ℤ) → r < v → n + v ≤ M → min (n + r + 2) M ≤ n + v → ((i : ℕ) → r ≤ i → i < v → A′ i ≡ A (n + i)) → B′ r ≡ B (n + r)
+    → (firstLows undo k A′ B′ r ≡ firstLows undo k A B (n + r)) × (firstHighs undo k v A′ B′ r ≡ firstHighs undo k M A B (n + r))
 unfolding predict
-undone-behind k M n v A B A′ B′ some top reach a b = go k
+first-there undo k M n v r A B A′ B′ h top reach a y = go k
   where
-    here : (X X′ : Line ℤ) → Agree v X′ (λ i. X (n + i)) → X′ 0 ≡ X n
-    here X X′ c = c 0 some ∙ ap X (omega arith)
+    x : A′ r ≡ A (n + r)
+    x = a r (omega arith) h
 
-    next : A′ (inside v (0 + 1) 0) ≡ A (inside M (n + 1) 0)
-    next = a _ (inside-in v (0 + 1) 0 some) ∙ ap A (window-after M n v 0 1 some top (omega arith))
+    next : A′ (inside v (r + 1) 0) ≡ A (inside M (n + r + 1) 0)
+    next = a _ (omega (arith, after-one v r h)) (inside-in v (r + 1) 0 (omega arith)) ∙ ap A (window-after M n v r 1 h top (omega arith) ∙ ap (λ (u : ℕ). inside M u 0) (omega arith))
 
-    go : (j : Kernel) → (firstLows true j A′ B′ 0 ≡ firstLows true j A B n) × (firstHighs true j v A′ B′ 0 ≡ firstHighs true j M A B n)
-    go kernel.S = (ap₂ firstOf (here A A′ a) (here B B′ b), ap₂ secondOf (here A A′ a) (here B B′ b))
-    go kernel.SPlusP = (ap₂ firstOf (here A A′ a) (here B B′ b), ap₂ secondOf (here A A′ a) (here B B′ b))
-    go kernel.TT = (ap₂ firstOf (here A A′ a) (here B B′ b), ap₂ secondOf (here A A′ a) (here B B′ b))
-    go kernel.FiveThree = (here A A′ a, ap₂ _+ℤ_ (here B B′ b) (ap₂ between (here A A′ a) next))
+    go : (j : Kernel) → (firstLows undo j A′ B′ r ≡ firstLows undo j A B (n + r)) × (firstHighs undo j v A′ B′ r ≡ firstHighs undo j M A B (n + r))
+    go kernel.S = (ap₂ (pairFirst undo) x y, ap₂ (pairSecond undo) x y)
+    go kernel.SPlusP = (ap₂ (pairFirst undo) x y, ap₂ (pairSecond undo) x y)
+    go kernel.TT = (ap₂ (pairFirst undo) x y, ap₂ (pairSecond undo) x y)
+    go kernel.FiveThree = (x, ap₂ (moved undo) y (ap₂ between x next))
 
 -- the second step on row n + r in v rows from row n on, which hold the line where it looks and where it moves
 abbrev pub Holds : Kernel → ℕ → ℕ → Line ℤ → Line ℤ → Line ℤ → Line ℤ → Type 0
@@ -143,18 +145,27 @@ holds kernel.SPlusP M n v g A B A′ B′ x y = λ i h. by-lt i g (λ lt. x i lt
 holds kernel.TT M n v g A B A′ B′ x y = λ i h. by-lt i g (λ lt. x i lt .0) (λ ge. y i ge h .0)
 holds kernel.FiveThree M n v g A B A′ B′ x y = λ i h. by-lt i g (λ lt. x i lt .1) (λ ge. y i ge h .1)
 
+-- and on the way in, where both steps are done on the first n of v rows and the first step on the others
+pub holds-in : (k : Kernel) (M n v : ℕ) (A B A′ B′ : Line ℤ) → v ≤ M → ((i : ℕ) → i < n → (A′ i ≡ lowsOf k M A B i) × (B′ i ≡ highsOf k M A B i))
+    → ((i : ℕ) → n ≤ i → i < v → (A′ i ≡ firstLows false k A B i) × (B′ i ≡ firstHighs false k M A B i)) → Holds k 0 v (firstLows false k A B) (firstHighs false k M A B) A′ B′
+holds-in kernel.S M n v A B A′ B′ top x y = tt
+holds-in kernel.SPlusP M n v A B A′ B′ top x y = λ i h. by-lt i n (λ lt. x i lt .0 ∙ sym (done-first M A B kernel.SPlusP i (omega arith))) (λ ge. y i ge h .0) ∙ ap (firstLows false kernel.SPlusP A B) (omega arith)
+holds-in kernel.TT M n v A B A′ B′ top x y = λ i h. by-lt i n (λ lt. x i lt .0 ∙ sym (done-first M A B kernel.TT i (omega arith))) (λ ge. y i ge h .0) ∙ ap (firstLows false kernel.TT A B) (omega arith)
+holds-in kernel.FiveThree M n v A B A′ B′ top x y = λ i h.
+    by-lt i n (λ lt. x i lt .1 ∙ sym (done-second M A B kernel.FiveThree i (omega arith))) (λ ge. y i ge h .1) ∙ ap (firstHighs false kernel.FiveThree M A B) (omega arith)
+
 -- and then its numbers are taken
 module _ (a b t m c d e : ℕ) (l : List ℤ) (M n : ℕ) (A B : ℕ → Line ℤ) (top : n + m ≤ M) (le : e ≤ m)
-    (lows : (j : ℕ) → j < c → AllWithin (2 ^ 28) M (A j)) (highs : (j : ℕ) → j < c → AllWithin (2 ^ 24) M (B j))
+    (lows : (j : ℕ) → j < c → AllWithin (2 ^ 28) M (A j)) (highs : (j : ℕ) → j < c → AllWithin (2 ^ 29) M (B j))
     (rows : (r j : ℕ) → d ≤ r → r < e → j < c → (lane a t l j r ≡ A j (n + r)) × (lane b t l j r ≡ B j (n + r))) where
   low-taken : ((j : ℕ) → j < c → Agree m (lane a t l j) (λ i. A j (n + i))) → Bounded (2 ^ 28) a t m c l × RowsWithin (2 ^ 29) b t c d e l
-  low-taken h = (record { each = λ j k i q. rw (h j k i q) (lows j k (n + i) (omega arith)) }, record { each = λ r j o q k. rw (rows r j o q k .1) (within-more (highs j k (n + r) (omega arith)) (omega arith)) })
+  low-taken h = (record { each = λ j k i q. rw (h j k i q) (lows j k (n + i) (omega arith)) }, record { each = λ r j o q k. rw (rows r j o q k .1) (highs j k (n + r) (omega arith)) })
 
   pub takes : (k : Kernel) → ((j : ℕ) → j < c → Holds k n m (A j) (B j) (lane a t l j) (lane b t l j)) → SecondTakes k a b t m m c d e l
   takes kernel.S h = tt
   takes kernel.SPlusP h = low-taken h
   takes kernel.TT h = low-taken h
-  takes kernel.FiveThree h = (record { each = λ j k i q. rw (h j k i q) (within-more (highs j k (n + i) (omega arith)) (omega arith)) }, record { each = λ r j o q k. rw (rows r j o q k .0) (lows j k (n + r) (omega arith)) })
+  takes kernel.FiveThree h = (record { each = λ j k i q. rw (h j k i q) (highs j k (n + i) (omega arith)) }, record { each = λ r j o q k. rw (rows r j o q k .0) (lows j k (n + r) (omega arith)) })
 
 -- so they are where all lows and highs are within its bounds
 module _ {a b t p q c : ℕ} {l : List ℤ} (e : ℕ) (x : Bounded (2 ^ 28) a t p c l) (y : Bounded (2 ^ 29) b t q c l) (ep : e ≤ p) (eq : e ≤ q) where
@@ -167,10 +178,10 @@ module _ {a b t p q c : ℕ} {l : List ℤ} (e : ℕ) (x : Bounded (2 ^ 28) a t 
   takes-all kernel.TT = low-all
   takes-all kernel.FiveThree = (y, record { each = λ n j o h k. x .each j k n (omega arith) })
 
-pub undone-there : (k : Kernel) (M n v r : ℕ) (A B A′ B′ : Line ℤ) → r < v → n + v ≤ M → n ≤ n + r - 2 → min (n + r + 3) M ≤ n + v → Holds k n v A B A′ B′ → A′ r ≡ A (n + r) → B′ r ≡ B (n + r)
-    → (secondLows true k v A′ B′ r ≡ secondLows true k M A B (n + r)) × (secondHighs true k v A′ B′ r ≡ secondHighs true k M A B (n + r))
+pub second-there : (undo : Bool) (k : Kernel) (M n v r : ℕ) (A B A′ B′ : Line ℤ) → r < v → n + v ≤ M → n ≤ n + r - 2 → min (n + r + 3) M ≤ n + v → Holds k n v A B A′ B′ → A′ r ≡ A (n + r) → B′ r ≡ B (n + r)
+    → (secondLows undo k v A′ B′ r ≡ secondLows undo k M A B (n + r)) × (secondHighs undo k v A′ B′ r ≡ secondHighs undo k M A B (n + r))
 unfolding predict update
-undone-there k M n v r A B A′ B′ h top back ahead holds x y = go k holds
+second-there undo k M n v r A B A′ B′ h top back ahead holds x y = go k holds
   where
     before : (X X′ : Line ℤ) (d : ℕ) → d ≤ 2 → Agree v X′ (λ i. X (n + i)) → X′ (inside v r d) ≡ X (inside M (n + r) d)
     before X X′ d le c = c _ (inside-in v r d (omega arith)) ∙ ap X (window-before M n v r d h top (omega arith))
@@ -178,11 +189,11 @@ undone-there k M n v r A B A′ B′ h top back ahead holds x y = go k holds
     after : (X X′ : Line ℤ) (d : ℕ) → d ≤ 2 → Agree v X′ (λ i. X (n + i)) → X′ (inside v (r + d) 0) ≡ X (inside M (n + r + d) 0)
     after X X′ d le c = c _ (inside-in v (r + d) 0 (omega arith)) ∙ ap X (window-after M n v r d h top (omega arith) ∙ ap (λ (u : ℕ). inside M u 0) (omega arith))
 
-    go : (j : Kernel) → Holds j n v A B A′ B′ → (secondLows true j v A′ B′ r ≡ secondLows true j M A B (n + r)) × (secondHighs true j v A′ B′ r ≡ secondHighs true j M A B (n + r))
+    go : (j : Kernel) → Holds j n v A B A′ B′ → (secondLows undo j v A′ B′ r ≡ secondLows undo j M A B (n + r)) × (secondHighs undo j v A′ B′ r ≡ secondHighs undo j M A B (n + r))
     go kernel.S c = (x, y)
-    go kernel.SPlusP c = (x, ap₂ _+ℤ_ y (ap₂ slopeA (before A A′ 1 (omega arith) c) (after A A′ 1 (omega arith) c)))
+    go kernel.SPlusP c = (x, ap₂ (moved undo) y (ap₂ slopeA (before A A′ 1 (omega arith) c) (after A A′ 1 (omega arith) c)))
     go kernel.TT c = (x, let p = before A A′ 2 (omega arith) c in let q = before A A′ 1 (omega arith) c in let s = after A A′ 1 (omega arith) c in let t = after A A′ 2 (omega arith) c in rw (y, p, q, s, t))
-    go kernel.FiveThree c = (ap₂ _-ℤ_ x (ap₂ smoothing (before B B′ 1 (omega arith) c) (c r h)), y)
+    go kernel.FiveThree c = (ap₂ (moved (not undo)) x (ap₂ smoothing (before B B′ 1 (omega arith) c) (c r h)), y)
 
 -- ---- what a step leaves is what the other takes
 module _ (M : ℕ) (A B : Line ℤ) (x : AllWithin (2 ^ 28) M A) (y : AllWithin (2 ^ 24) M B) where
@@ -205,13 +216,13 @@ module _ (M : ℕ) (A B : Line ℤ) (x : AllWithin (5 * 2 ^ 22) M A) (y : AllWit
   difference-all : AllWithin (2 ^ 29) M (seconds false A B)
   difference-all n h = within-more (difference-within (5 * 2 ^ 22) _ _ (x n h) (y n h)) (omega arith)
 
-  done-lows : (k : Kernel) → AllWithin (2 ^ 28) M (firstLows false k A B)
+  pub done-lows : (k : Kernel) → AllWithin (2 ^ 28) M (firstLows false k A B)
   done-lows kernel.S = mean-all
   done-lows kernel.SPlusP = mean-all
   done-lows kernel.TT = mean-all
   done-lows kernel.FiveThree = λ n h. within-more (x n h) (omega arith)
 
-  done-highs : (k : Kernel) → AllWithin (2 ^ 29) M (firstHighs false k M A B)
+  pub done-highs : (k : Kernel) → AllWithin (2 ^ 29) M (firstHighs false k M A B)
   done-highs kernel.S = difference-all
   done-highs kernel.SPlusP = difference-all
   done-highs kernel.TT = difference-all

@@ -6,7 +6,7 @@ ghost use Rattle.line.specs.Transform as line;
 ghost use Rattle.runs.specs.Steps.{tapBound};
 ghost use Rattle.lifting.specs.Parts.{In, Parts, Bounded, Both};
 ghost use Rattle.lifting.specs.Steps.{lookBack, lookAhead, tapsOf, Straight, EndToEnd, Fit, Lifted};
-ghost use Rattle.lifting.specs.Lines.{firsts, seconds, Pairable, firstLows, firstHighs, secondLows, secondHighs, SecondTakes, lowsOf, highsOf};
+ghost use Rattle.lifting.specs.Lines.{firsts, seconds, Pairable, RowsWithin, firstLows, firstHighs, secondLows, secondHighs, SecondTakes, lowsOf, highsOf};
 use kernel::Kernel;
 use runs::Step;
 use runs::Taps;
@@ -196,33 +196,54 @@ fn pair_rows(
     }
 }
 
-// The same for m pairs of rows, one at a time.
-fn pair_each(l: &mut [i32], a: usize, b: usize, step: usize, m: usize, lanes: usize, join: bool)
-    requires { ⌜ Parts a b step m m lanes (length (now l)) ⌝ }
-    requires { ⌜ Pairable join a b step lanes 0 m (now l) ⌝ }
-    ensures { λ _. ⌜ Both (firsts join) (seconds join) a b step lanes 0 m m (now (l .entry)) (now (l .exit)) ⌝ }
+// The pairs of the rows d up to e, one row at a time.
+fn pair_each(
+    l: &mut [i32],
+    a: usize,
+    b: usize,
+    step: usize,
+    lanes: usize,
+    d: usize,
+    e: usize,
+    join: bool,
+)
+    requires { ⌜ d ≤ e ⌝ }
+    requires { ⌜ Parts a b step e e lanes (length (now l)) ⌝ }
+    requires { ⌜ Pairable join a b step lanes d e (now l) ⌝ }
+    ensures { λ _. ⌜ Both (firsts join) (seconds join) a b step lanes d e e (now (l .entry)) (now (l .exit)) ⌝ }
 {
-    for n in 0..m {
+    for n in d..e {
         pair_rows(l, a, b, step, lanes, n, 1, join);
     }
 }
 
 // The same, as one run where the rows lie end to end.
-fn pairs(l: &mut [i32], a: usize, b: usize, step: usize, m: usize, lanes: usize, join: bool)
-    requires { ⌜ 0 < m ⌝ }
-    requires { ⌜ Parts a b step m m lanes (length (now l)) ⌝ }
-    requires { ⌜ Pairable join a b step lanes 0 m (now l) ⌝ }
-    ensures { λ _. ⌜ Both (firsts join) (seconds join) a b step lanes 0 m m (now (l .entry)) (now (l .exit)) ⌝ }
+fn pairs(
+    l: &mut [i32],
+    a: usize,
+    b: usize,
+    step: usize,
+    lanes: usize,
+    d: usize,
+    e: usize,
+    join: bool,
+)
+    requires { ⌜ d ≤ e ⌝ }
+    requires { ⌜ Parts a b step e e lanes (length (now l)) ⌝ }
+    requires { ⌜ Pairable join a b step lanes d e (now l) ⌝ }
+    ensures { λ _. ⌜ Both (firsts join) (seconds join) a b step lanes d e e (now (l .entry)) (now (l .exit)) ⌝ }
 {
-    if step == lanes {
-        pair_rows(l, a, b, step, lanes, 0, m, join);
-    } else {
-        pair_each(l, a, b, step, m, lanes, join);
+    if step != lanes {
+        pair_each(l, a, b, step, lanes, d, e, join);
+        return;
+    }
+    if d < e {
+        pair_rows(l, a, b, step, lanes, d, e - d, join);
     }
 }
 
-// The first step of a kernel, or that step undone: kernels 0 to 2 make means and differences of pairs, kernel 3 takes what it predicts off the
-// highs. On all rows of highs and as many rows of lows; it looks at the rows of lows behind them.
+// The first step of a kernel, or that step undone, on the rows d up to e: kernels 0 to 2 make means and differences of pairs, kernel 3 takes what it
+// predicts off the highs.
 pub fn first_step(
     kernel: Kernel,
     undo: bool,
@@ -233,18 +254,20 @@ pub fn first_step(
     lows: usize,
     highs: usize,
     lanes: usize,
+    d: usize,
+    e: usize,
 )
-    requires { ⌜ (0 < highs) × (highs ≤ lows) ⌝ }
+    requires { ⌜ (d ≤ e) × (e ≤ lows) × (e ≤ highs) ⌝ }
     requires { ⌜ Parts a b step lows highs lanes (length (now l)) ⌝ }
     requires { ⌜ Bounded (2 ^ 29) a step lows lanes (now l) ⌝ }
-    requires { ⌜ Bounded (2 ^ 29) b step highs lanes (now l) ⌝ }
-    ensures { λ _. ⌜ Both (firstLows undo kernel) (firstHighs undo kernel lows) a b step lanes 0 highs highs (now (l .entry)) (now (l .exit)) ⌝ }
+    requires { ⌜ RowsWithin (2 ^ 29) b step lanes d e (now l) ⌝ }
+    ensures { λ _. ⌜ Both (firstLows undo kernel) (firstHighs undo kernel lows) a b step lanes d e e (now (l .entry)) (now (l .exit)) ⌝ }
 {
     match kernel {
-        Kernel::S => pairs(l, a, b, step, highs, lanes, undo),
-        Kernel::SPlusP => pairs(l, a, b, step, highs, lanes, undo),
-        Kernel::TT => pairs(l, a, b, step, highs, lanes, undo),
-        Kernel::FiveThree => lift(Step::High, l, b, a, step, lows, lanes, 0, highs, undo),
+        Kernel::S => pairs(l, a, b, step, lanes, d, e, undo),
+        Kernel::SPlusP => pairs(l, a, b, step, lanes, d, e, undo),
+        Kernel::TT => pairs(l, a, b, step, lanes, d, e, undo),
+        Kernel::FiveThree => lift(Step::High, l, b, a, step, lows, lanes, d, e, undo),
     }
 }
 
@@ -292,7 +315,7 @@ pub fn forward(
     requires { ⌜ Bounded (5 * 2 ^ 22) b step highs lanes (now l) ⌝ }
     ensures { λ _. ⌜ Both (lowsOf kernel lows) (highsOf kernel lows) a b step lanes 0 lows highs (now (l .entry)) (now (l .exit)) ⌝ }
 {
-    first_step(kernel, false, l, a, b, step, lows, highs, lanes);
+    first_step(kernel, false, l, a, b, step, lows, highs, lanes, 0, highs);
     second_step(kernel, false, l, a, b, step, lows, highs, lanes, 0, highs);
 }
 
@@ -314,5 +337,5 @@ pub fn back(
     ensures { λ _. ⌜ Both (line.undoneEvens kernel lows) (line.undoneOdds kernel lows) a b step lanes 0 lows highs (now (l .entry)) (now (l .exit)) ⌝ }
 {
     second_step(kernel, true, l, a, b, step, lows, highs, lanes, 0, highs);
-    first_step(kernel, true, l, a, b, step, lows, highs, lanes);
+    first_step(kernel, true, l, a, b, step, lows, highs, lanes, 0, highs);
 }

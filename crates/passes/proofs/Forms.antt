@@ -20,7 +20,7 @@ use Rattle.lifting.specs.Parts.{lane, Both}
 use Rattle.lifting.specs.Lines.{lowsOf, highsOf}
 use Rattle.passes.proofs.Places.{high-place}
 
-forward-joined : (k : Kernel) (w : ℕ) (X : Line ℤ) → forward k w X ≡ joined (lowSide w) (low k (lowSide w) X) (high k (lowSide w) X)
+pub forward-joined : (k : Kernel) (w : ℕ) (X : Line ℤ) → forward k w X ≡ joined (lowSide w) (low k (lowSide w) X) (high k (lowSide w) X)
 unfolding forward
 forward-joined k w X = refl
 

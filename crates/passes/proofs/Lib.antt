@@ -7,5 +7,7 @@ pub mod Placing
 pub mod Pairs
 pub mod PairPlaces
 pub mod Level
+pub mod Swept
+pub mod Rising
 pub mod Rolling
 pub mod Turns

@@ -1,32 +1,28 @@
--- Rows of samples that are transformed and stored where they end.
---
---   RowsIn k s w h i l l′ == so far the rows up to i are stored
---
--- Assumes nothing.
-use mathlib.Core.Path.{_≡_, refl, sym, ap, subst, _∙_, fun-ext}
+-- Rows of samples that are transformed and stored where they end. Assumes nothing.
+use mathlib.Core.Path.{_≡_, refl, sym, ap, subst, _∙_}
 use mathlib.Core.List.{List}
 use Prim.Native.Nat.{ℕ, _+_, _*_, _-_, _/_, _%_, _^_, _<_, _≤_}
-use native.Mathlib.Nat.{mul-le-mul-right}
+use native.Mathlib.Nat.{add-mul, one-mul, mul-le-mul-right}
 use native.Mathlib.Omega.{arith}
 use lib.Arith.{digits-lt}
 use lib.IntN.{ℤ, pos}
-use lib.ListN.{length, getD, List·getD-eq-default}
+use lib.ListN.{getD}
 use Rattle.kernel.specs.declared.Kernel.{Kernel}
 use Rattle.line.specs.Inner.{Agree, AllWithin}
 use Rattle.line.specs.Cells.{Line}
 use Rattle.line.specs.Transform.{low, high, forward}
 use Rattle.line.proofs.Cells.{by-lt, by-parity}
 use Rattle.line.proofs.Local.{forward-local}
-use Rattle.grid.specs.Picture.{rowPass, turned, colPass, lowSide, picture}
-use Rattle.grid.specs.Placed.{parted, woven}
-use Rattle.grid.proofs.Passes.{cell, cell-past}
-use Rattle.grid.proofs.Outside.{row-below, row-right}
-use Rattle.grid.proofs.Parted.{row-cell, cols-parted-cell, source, source-low, source-high, source-lt, woven-even, woven-odd}
+use Rattle.grid.specs.Picture.{lowSide}
+use Rattle.grid.specs.Placed.{woven}
+use Rattle.grid.proofs.Passes.{cell}
+use Rattle.grid.proofs.Parted.{woven-even, woven-odd}
 use Rattle.runs.specs.Cells.{Written}
 use Rattle.transfer.specs.Moved.{Twofold}
 use Rattle.lifting.specs.Parts.{lane, Parts, Bounded, Both}
 use Rattle.lifting.specs.Lines.{lowsOf, highsOf}
 use Rattle.passes.specs.Passes.{pictured}
+use Rattle.passes.specs.Pairs.{PairsIn}
 use Rattle.passes.proofs.Forms.{forward-form}
 
 -- ---- one row, parted in place
@@ -75,15 +71,7 @@ pub samples-parted : (s : List ℕ) (from at w : ℕ) {l l₁ : List ℤ}
     → Twofold (pos 0) (λ k. pos (getD s (from + 2 * k) 0)) (λ k. pos (getD s (from + (2 * k + 1)) 0)) (λ k. at + k) (λ k. at + lowSide w + k) (w / 2) l l₁
 samples-parted s from at w p = record { size = p .size; first = p .first; second = λ k h. p .second k h ∙ ap (λ (i : ℕ). pos (getD s i 0)) (omega arith); off = p .off }
 
--- ---- row after row
-pub source-of : (h i : ℕ) {y : ℕ} → (i < h / 2 → y ≡ 2 * i) → (h / 2 ≤ i → y ≡ 2 * (i - h / 2) + 1) → y ≡ source h i
-source-of h i low high = by-lt i (h / 2) (λ lt. low lt ∙ sym (source-low h i lt)) (λ ge. high ge ∙ sym (source-high h i ge))
-
-pub record RowsIn (k : Kernel) (s : List ℕ) (w h i : ℕ) (l l′ : List ℤ) : Type 0 where
-  pub count : i ≤ h
-  pub size : length l′ ≡ length l
-  pub stored : (y x : ℕ) → y < i → x < w → getD l′ (y * w + x) (pos 0) ≡ forward k w (pictured w s (source h y)) x
-
+-- ---- pair after pair of rows
 -- a row of the picture, and its places
 pub row-within : (r w y : ℕ) (s : List ℕ) → AllWithin r w (pictured w s y) → AllWithin r w (λ x. pos (getD s (y * w + x) 0))
 row-within r w y s all x h = let t = all x (omega arith) in rw (cell 0 w s y x (omega arith)) at t
@@ -91,29 +79,34 @@ row-within r w y s all x h = let t = all x (omega arith) in rw (cell 0 w s y x (
 pub row-ends : (w h y : ℕ) → 0 < w → y < h → y * w + w ≤ h * w
 row-ends w h y some lt = omega (arith, digits-lt {q = y} {m = h} {r = w - 1} {c = w} lt (omega arith))
 
-pub rows-in-none : (k : Kernel) (s : List ℕ) (w h : ℕ) (l : List ℤ) → RowsIn k s w h 0 l l
-rows-in-none k s w h l = record { count = omega arith; size = refl; stored = λ y x p q. absurd (omega arith) }
+written-off : {g : ℕ → ℤ} {s n : ℕ} {l l′ : List ℤ} → Written g s n l l′ → (j : ℕ) → ((x : ℕ) → x < n → j ≡ s + x → ⊥) → getD l′ j (pos 0) ≡ getD l j (pos 0)
+written-off {s = s} {n = n} f j out = by-lt j s (λ lt. f .below j lt) (λ ge. by-lt j (s + n) (λ lt. absurd (out (j - s) (omega arith) (omega arith))) (λ far. f .above j far))
 
-module _ {k : Kernel} {s : List ℕ} {w h i : ℕ} {l l′ : List ℤ} (even : w % 2 ≡ 0) (p : RowsIn k s w h i l l′) where
-  pub rows-in-more : {l″ : List ℤ} → i < h → Written (forward k w (λ x. pos (getD s (source h i * w + x) 0))) (i * w) w l′ l″ → RowsIn k s w h (i + 1) l l″
-  rows-in-more {l″} lt g = record {
-    count = omega arith;
-    size = g .size ∙ p .size;
-    stored = λ y x a b. by-lt y i
-        (λ old. g .below (y * w + x) (digits-lt {q = y} {m = i} {r = x} {c = w} old b) ∙ p .stored y x old b)
-        (λ new. let z : y ≡ i = omega arith in rw z (g .on x b ∙ forward-local k w _ _ even (λ v q. sym (ap pos (cell 0 w s (source h i) v q))) x b));
+pub pairs-in-none : (k : Kernel) (s : List ℕ) (w m a : ℕ) (l : List ℤ) → PairsIn k s w m a a l l
+pairs-in-none k s w m a l = record { size = refl; low = λ i x p q. absurd (omega arith); high = λ i x p q. absurd (omega arith); off = λ j x y. refl }
+
+module _ {k : Kernel} {s : List ℕ} {w m a n : ℕ} {l l′ l₁ l₂ : List ℤ} (even : w % 2 ≡ 0) (p : PairsIn k s w m a n l l′) (an : a ≤ n) (nm : n < m)
+    (f : Written (forward k w (λ x. pos (getD s (2 * n * w + x) 0))) (n * w) w l′ l₁) (g : Written (forward k w (λ x. pos (getD s ((2 * n + 1) * w + x) 0))) ((m + n) * w) w l₁ l₂) where
+  pictured-row : (y x : ℕ) → x < w → forward k w (λ v. pos (getD s (y * w + v) 0)) x ≡ forward k w (pictured w s y) x
+  pictured-row y x h = forward-local k w _ _ even (λ v q. sym (ap pos (cell 0 w s y v q))) x h
+
+  -- a low row, after the high one is stored
+  low-kept : (i x : ℕ) → i ≤ n → x < w → getD l₂ (i * w + x) (pos 0) ≡ getD l₁ (i * w + x) (pos 0)
+  low-kept i x le h = g .below (i * w + x) (digits-lt {q = i} {m = m + n} {r = x} {c = w} (omega arith) h)
+
+  high-kept : (i x : ℕ) → i < n → x < w → getD l₂ ((m + i) * w + x) (pos 0) ≡ getD l′ ((m + i) * w + x) (pos 0)
+  high-kept i x lt h = g .below ((m + i) * w + x) (digits-lt {q = m + i} {m = m + n} {r = x} {c = w} (omega arith) h)
+      ∙ f .above ((m + i) * w + x) (omega (arith, add-mul n 1 w, one-mul w, mul-le-mul-right {m = n + 1} {n = m + i} w (omega arith)))
+
+  pub pairs-in-more : PairsIn k s w m a (n + 1) l l₂
+  pairs-in-more = record {
+    size = g .size ∙ f .size ∙ p .size;
+    low = λ i x u v h. by-lt i n
+        (λ old. low-kept i x (omega arith) h ∙ f .below (i * w + x) (digits-lt {q = i} {m = n} {r = x} {c = w} old h) ∙ p .low i x u old h)
+        (λ new. let z : i ≡ n = omega arith in rw z (low-kept n x (omega arith) h ∙ f .on x h ∙ pictured-row (2 * n) x h));
+    high = λ i x u v h. by-lt i n
+        (λ old. high-kept i x old h ∙ p .high i x u old h)
+        (λ new. let z : i ≡ n = omega arith in rw z (g .on x h ∙ pictured-row (2 * n + 1) x h));
+    off = λ j x y. written-off g j (λ v h e. y n v an (omega arith) h e) ∙ written-off f j (λ v h e. x n v an (omega arith) h e)
+        ∙ p .off j (λ i v u q h e. x i v u (omega arith) h e) (λ i v u q h e. y i v u (omega arith) h e);
   }
-
--- all rows
-pub rows-in-all : (k : Kernel) (s : List ℕ) (w h : ℕ) (l l′ : List ℤ) → w % 2 ≡ 0 → h % 2 ≡ 0 → length l ≡ h * w → length s ≡ h * w → RowsIn k s w h h l l′
-    → picture (pos 0) w l′ ≡ colPass parted w h (rowPass (forward k) w h (pictured w s))
-rows-in-all k s w h l l′ even-w even-h same-l same-s p = fun-ext λ y. fun-ext λ x. by-lt x w
-    (λ j. by-lt y h
-    (λ i. cell (pos 0) w l′ y x j ∙ p .stored y x i j ∙ sym (row-cell (forward k) w h (source h y) x (pictured w s) (source-lt h y even-h i) j) ∙ sym (cols-parted-cell w h y x (rowPass (forward k) w h (pictured w s)) i j))
-    (λ i. cell (pos 0) w l′ y x j ∙ List·getD-eq-default l′ (pos 0) (omega (arith, p .size, digits-le y x i))
-    ∙ sym (row-right parted h w x y (turned (rowPass (forward k) w h (pictured w s))) i ∙ row-below (forward k) w h y x (pictured w s) i
-    ∙ ap pos (cell 0 w s y x j ∙ List·getD-eq-default s 0 (omega (arith, digits-le y x i))))))
-    (λ j. cell-past (pos 0) w l′ y x j ∙ sym (row-below parted h w x y (turned (rowPass (forward k) w h (pictured w s))) j ∙ row-right (forward k) w h y x (pictured w s) j ∙ ap pos (cell-past 0 w s y x j)))
-  where
-    digits-le : (y x : ℕ) → h ≤ y → h * w ≤ y * w + x
-    digits-le y x i = let le : h * w ≤ y * w = mul-le-mul-right w i in omega arith

@@ -3,12 +3,11 @@
 --   planeAt R m c i x   == number x of the low row, or of the high row, of pair i of the level R, as it is placed
 --   begunAt k R m c i x == after the second step of the columns is undone
 --   endedAt k R m c i x == after their first step is undone as well
---   Changed S w d f l l′ == l′ is l but for the pairs d up to f
 --   Rolled k R m S w u e b q l
 --                       == so far l is u with its first e pairs taken back, those up to b begun, and those up to q placed
 --
 -- Assumes nothing.
-use mathlib.Core.Path.{_≡_, refl, sym, ap, _∙_}
+use mathlib.Core.Path.{_≡_, sym, ap, _∙_}
 use mathlib.Core.Bool.{Bool, true, false}
 use mathlib.Core.List.{List}
 use Prim.Native.Nat.{ℕ, _+_, _*_, _-_, _/_, _%_, _^_, _<_, _≤_, min}
@@ -20,6 +19,7 @@ use Rattle.kernel.specs.declared.Kernel.{Kernel}
 use Rattle.line.specs.Cells.{Line, cell, behind}
 use Rattle.line.specs.Inner.{Agree, AllWithin}
 use Rattle.line.specs.Transform.{undoneEvens, undoneOdds, back}
+use Rattle.line.proofs.Bounds.{within-more}
 use Rattle.line.proofs.Cells.{by-lt, by-parity, paired-even, paired-odd}
 use Rattle.line.proofs.Local.{back-local}
 use Rattle.grid.specs.Picture.{Picture, rowPass, turned, colPass}
@@ -27,13 +27,14 @@ use Rattle.grid.proofs.Passes.{row-of, col-of}
 use Rattle.grid.proofs.Parted.{row-cell}
 use Rattle.lifting.specs.Parts.{lane, Parts, Bounded, Both}
 use Rattle.lifting.specs.Lines.{secondLows, secondHighs, firstLows, firstHighs, SecondTakes}
-use Rattle.lifting.proofs.TwoSteps.{undone-first, undone-second, undone-behind, Holds, holds, takes, undone-there, undone-lows, undone-highs}
+use Rattle.lifting.proofs.TwoSteps.{undone-first, undone-second, first-there, Holds, holds, takes, second-there, undone-lows, undone-highs}
 use Rattle.passes.specs.Passes.{Takes, Area}
 use Rattle.passes.specs.Pairs.{endedRow, PairBack, PairsPlaced}
 use Rattle.passes.specs.Levels.{levelOf, LevelBack}
 use Rattle.passes.proofs.Running.{takes-agree}
 use Rattle.passes.proofs.PairPlaces.{at, bit, at-row, at-more, lane-at, pair-of}
 use Rattle.passes.proofs.Level.{level-left, level-right, level-below}
+use Rattle.passes.proofs.Swept.{Apart, Changed, Swept}
 
 -- ---- what the rows of a pair hold
 abbrev pub planeAt : Picture ℤ → ℕ → Bool → ℕ → Line ℤ
@@ -48,73 +49,16 @@ abbrev pub endedAt : Kernel → Picture ℤ → ℕ → Bool → ℕ → Line �
 endedAt k R m false i x = firstLows true k (λ n. begunAt k R m false n x) (λ n. begunAt k R m true n x) i
 endedAt k R m true i x = firstHighs true k m (λ n. begunAt k R m false n x) (λ n. begunAt k R m true n x) i
 
-pub record Changed (S w d f : ℕ) (l l′ : List ℤ) : Type 0 where
-  pub size : length l′ ≡ length l
-  pub off : (j : ℕ) → ((c : Bool) (i x : ℕ) → d ≤ i → i < f → x < w → j ≡ at S c i + x → ⊥) → cell l′ j ≡ cell l j
+abbrev pub Rolled : Kernel → Picture ℤ → ℕ → ℕ → ℕ → List ℤ → ℕ → ℕ → ℕ → List ℤ → Type 0
+Rolled k R m S w u e b q l = Swept (at S) (planeAt R m) (begunAt k R m) (λ c i. back k w (endedAt k R m c i)) m w u e b q l
 
-module _ {S w d f : ℕ} {l l′ : List ℤ} (wide : w ≤ S) (p : Changed S w d f l l′) (c : Bool) (i x : ℕ) (h : x < w) where
-  pair-before : i < d → cell l′ (at S c i + x) ≡ cell l (at S c i + x)
-  pair-before lt = p .off (at S c i + x) (λ c′ i′ x′ a b q e. omega (arith, pair-of S w c c′ i i′ x x′ wide h q e))
-
-  pair-behind : f ≤ i → cell l′ (at S c i + x) ≡ cell l (at S c i + x)
-  pair-behind ge = p .off (at S c i + x) (λ c′ i′ x′ a b q e. omega (arith, pair-of S w c c′ i i′ x x′ wide h q e))
-
-pub record Rolled (k : Kernel) (R : Picture ℤ) (m S w : ℕ) (u : List ℤ) (e b q : ℕ) (l : List ℤ) : Type 0 where
-  pub size : length l ≡ length u
-  pub done : (c : Bool) (i x : ℕ) → i < e → x < w → cell l (at S c i + x) ≡ back k w (endedAt k R m c i) x
-  pub begun : (c : Bool) (i x : ℕ) → e ≤ i → i < b → x < w → cell l (at S c i + x) ≡ begunAt k R m c i x
-  pub placed : (c : Bool) (i x : ℕ) → b ≤ i → i < q → x < w → cell l (at S c i + x) ≡ planeAt R m c i x
-  pub left : (c : Bool) (i x : ℕ) → q ≤ i → i < m → x < w → cell l (at S c i + x) ≡ cell u (at S c i + x)
-  pub off : (j : ℕ) → ((c : Bool) (i x : ℕ) → i < m → x < w → j ≡ at S c i + x → ⊥) → cell l j ≡ cell u j
-
-pub rolled-none : {k : Kernel} {R : Picture ℤ} {m S w : ℕ} {u : List ℤ} → Rolled k R m S w u 0 0 0 u
-rolled-none = record {
-  size = refl;
-  done = λ c i x h. absurd (omega arith);
-  begun = λ c i x a b. absurd (omega arith);
-  placed = λ c i x a b. absurd (omega arith);
-  left = λ c i x a b h. refl;
-  off = λ j no. refl;
-}
-
--- ---- one stage more
-module _ {k : Kernel} {R : Picture ℤ} {m S w : ℕ} {u : List ℤ} {e b q : ℕ} {l l′ : List ℤ} (wide : w ≤ S) (p : Rolled k R m S w u e b q l) where
-  pub place-more : {f : ℕ} → e ≤ b → b ≤ q → q ≤ f → f ≤ m → Changed S w q f l l′ → ((c : Bool) (i x : ℕ) → q ≤ i → i < f → x < w → cell l′ (at S c i + x) ≡ planeAt R m c i x)
-      → Rolled k R m S w u e b f l′
-  place-more eb bq qf fm t new = record {
-    size = t .size ∙ p .size;
-    done = λ c i x h r. pair-before wide t c i x r (omega arith) ∙ p .done c i x h r;
-    begun = λ c i x a h r. pair-before wide t c i x r (omega arith) ∙ p .begun c i x a h r;
-    placed = λ c i x a h r. by-lt i q (λ lt. pair-before wide t c i x r lt ∙ p .placed c i x a lt r) (λ ge. new c i x ge h r);
-    left = λ c i x a h r. pair-behind wide t c i x r a ∙ p .left c i x (omega arith) h r;
-    off = λ j no. t .off j (λ c i x a h r. no c i x (omega arith) r) ∙ p .off j no;
-  }
-
-  pub begin-more : {f : ℕ} → e ≤ b → b ≤ f → f ≤ q → q ≤ m → Changed S w b f l l′ → ((c : Bool) (i x : ℕ) → b ≤ i → i < f → x < w → cell l′ (at S c i + x) ≡ begunAt k R m c i x)
-      → Rolled k R m S w u e f q l′
-  begin-more eb bf fq qm t new = record {
-    size = t .size ∙ p .size;
-    done = λ c i x h r. pair-before wide t c i x r (omega arith) ∙ p .done c i x h r;
-    begun = λ c i x a h r. by-lt i b (λ lt. pair-before wide t c i x r lt ∙ p .begun c i x a lt r) (λ ge. new c i x ge h r);
-    placed = λ c i x a h r. pair-behind wide t c i x r a ∙ p .placed c i x (omega arith) h r;
-    left = λ c i x a h r. pair-behind wide t c i x r (omega arith) ∙ p .left c i x a h r;
-    off = λ j no. t .off j (λ c i x a h r. no c i x (omega arith) r) ∙ p .off j no;
-  }
-
-  pub end-more : e < b → b ≤ q → q ≤ m → Changed S w e (e + 1) l l′ → ((c : Bool) (x : ℕ) → x < w → cell l′ (at S c e + x) ≡ back k w (endedAt k R m c e) x) → Rolled k R m S w u (e + 1) b q l′
-  end-more eb bq qm t new = record {
-    size = t .size ∙ p .size;
-    done = λ c i x h r. by-lt i e (λ lt. pair-before wide t c i x r lt ∙ p .done c i x lt r) (λ ge. let z : i ≡ e = omega arith in rw z (new c x r));
-    begun = λ c i x a h r. pair-behind wide t c i x r a ∙ p .begun c i x (omega arith) h r;
-    placed = λ c i x a h r. pair-behind wide t c i x r (omega arith) ∙ p .placed c i x a h r;
-    left = λ c i x a h r. pair-behind wide t c i x r (omega arith) ∙ p .left c i x a h r;
-    off = λ j no. t .off j (λ c i x a h r. no c i x (omega arith) r) ∙ p .off j no;
-  }
+pub pairs-apart : (S w m : ℕ) → w ≤ S → Apart (at S) m w
+pairs-apart S w m wide c c′ i i′ x x′ a b h h′ e = pair-of S w c c′ i i′ x x′ wide h h′ e
 
 -- ---- pairs that are placed
 module _ {k : Kernel} {W S w h e b q f : ℕ} (p u l l′ : List ℤ) (z : Area W w h (length p)) (wide : w ≤ S) (r : Rolled k (levelOf W S w h p u) (h / 2) S w u e b q l)
     (t : PairsPlaced W S w (h / 2) q f p l l′) where
-  pub placed-changed : Changed S w q f l l′
+  pub placed-changed : Changed (at S) w q f l l′
   placed-changed = record { size = t .size; off = λ j no. t .off j (λ i x a n g lt. no false i x a n lt) (λ i x a n lt. no true i x a n lt) }
 
   -- the left part of a low row is what the levels below left there
@@ -166,11 +110,11 @@ module _ {k : Kernel} {R : Picture ℤ} {m S w n b q f : ℕ} (u l : List ℤ) (
 
   pub rows-begin : ((x : ℕ) → x < w → AllWithin (2 ^ 28) m (λ i. R i x)) → ((x : ℕ) → x < w → AllWithin (2 ^ 24) m (λ i. R (m + i) x))
       → SecondTakes k (at S false n) (at S true n) (2 * S) (q - n) (q - n) w (b - n) (f - n) l
-  rows-begin lows highs = takes (at S false n) (at S true n) (2 * S) (q - n) w (b - n) (f - n) l m n (λ x i. R i x) (λ x i. R (m + i) x) (omega arith) (omega arith) lows highs
+  rows-begin lows highs = takes (at S false n) (at S true n) (2 * S) (q - n) w (b - n) (f - n) l m n (λ x i. R i x) (λ x i. R (m + i) x) (omega arith) (omega arith) lows (λ x h i a. within-more (highs x h i a) (omega arith))
       (λ i x a d h. (placed-row false x i h a (omega arith), placed-row true x i h a (omega arith))) k rows-hold
 
   module _ {l′ : List ℤ} (back-far : b < f → n ≤ b - 2) (ahead : min (f + 2) m ≤ q) (t : Both (secondLows true k (q - n)) (secondHighs true k (q - n)) (at S false n) (at S true n) (2 * S) w (b - n) (f - n) (f - n) l l′) where
-    pub begun-changed : Changed S w b f l l′
+    pub begun-changed : Changed (at S) w b f l l′
     begun-changed = record {
       size = t .size;
       off = λ j no. t .off j
@@ -182,7 +126,7 @@ module _ {k : Kernel} {R : Picture ℤ} {m S w n b q f : ℕ} (u l : List ℤ) (
         → (secondLows true k (q - n) (row false x) (row true x) i ≡ begunAt k R m false (n + i) x) × (secondHighs true k (q - n) (row false x) (row true x) i ≡ begunAt k R m true (n + i) x)
     begun-here x i h a d =
         let far = back-far (omega arith) in
-        undone-there k m n (q - n) i (λ i. R i x) (λ i. R (m + i) x) (row false x) (row true x) (omega arith) (omega arith) (omega arith) (omega arith) (rows-hold x h)
+        second-there true k m n (q - n) i (λ i. R i x) (λ i. R (m + i) x) (row false x) (row true x) (omega arith) (omega arith) (omega arith) (omega arith) (rows-hold x h)
         (placed-row false x i h a (omega arith)) (placed-row true x i h a (omega arith))
 
     pub begun-new : (c : Bool) (i x : ℕ) → b ≤ i → i < f → x < w → cell l′ (at S c i + x) ≡ begunAt k R m c i x
@@ -198,7 +142,10 @@ module _ {k : Kernel} {R : Picture ℤ} {m S w n b q : ℕ} (u l : List ℤ) (nb
   window-row c x h i a = lane-at S c n i x l ∙ r .begun c (n + i) x (omega arith) (omega arith) h
 
   ended-both : (x : ℕ) → x < w → (endedRow false k (b - n) (at S false n) S l x ≡ endedAt k R m false n x) × (endedRow true k (b - n) (at S false n) S l x ≡ endedAt k R m true n x)
-  ended-both x h = undone-behind k m n (b - n) (λ i. begunAt k R m false i x) (λ i. begunAt k R m true i x) _ _ (omega arith) (omega arith) (omega arith) (window-row false x h) (window-row true x h)
+  ended-both x h =
+      let e : n + 0 ≡ n = omega arith in
+      rw e at (first-there true k m n (b - n) 0 (λ i. begunAt k R m false i x) (λ i. begunAt k R m true i x) (lane (at S false n) (2 * S) l x) (lane (at S true n) (2 * S) l x) (omega arith) (omega arith) (omega arith)
+      (λ i o a. window-row false x h i a) (window-row true x h 0 (omega arith)))
 
   pub ended-is : (c : Bool) (x : ℕ) → x < w → endedRow c k (b - n) (at S false n) S l x ≡ endedAt k R m c n x
   ended-is false x h = ended-both x h .0
@@ -212,7 +159,7 @@ module _ {k : Kernel} {R : Picture ℤ} {m S w n b q : ℕ} (u l : List ℤ) (nb
     highs-near = record { each = λ x h i a. rw (window-row true x h i a) (undone-highs m _ _ (lows x h) (highs x h) k (n + i) (omega arith)) }
 
   module _ {l′ : List ℤ} (even : w % 2 ≡ 0) (t : PairBack k (b - n) (at S false n) S w l l′) where
-    pub ended-changed : Changed S w n (n + 1) l l′
+    pub ended-changed : Changed (at S) w n (n + 1) l l′
     ended-changed = record { size = t .size; off = λ j no. t .off j (λ x h. no false n x (omega arith) (omega arith) h) (λ x h. no true n x (omega arith) (omega arith) h) }
 
     pub ended-new : (c : Bool) (x : ℕ) → x < w → cell l′ (at S c n + x) ≡ back k w (endedAt k R m c n) x

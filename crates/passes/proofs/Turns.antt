@@ -1,15 +1,9 @@
 -- One turn of a level's way back: pairs are placed and begun ahead, which undoes the second step of their columns, and a pair is ended, which undoes
--- the first.
---
---   Ahead m n b q == pairs are begun up to b and placed up to q, of m, when the first n are taken back
---   begunTo m n   == how far pairs are begun, of m, when pair n is ended
---   placedTo m n  == how far they are placed
---
--- Assumes nothing.
+-- the first. Assumes nothing.
 use mathlib.Core.Path.{_≡_}
 use mathlib.Core.Bool.{true, false}
 use mathlib.Core.List.{List}
-use Prim.Native.Nat.{ℕ, _+_, _*_, _-_, _/_, _^_, _<_, _≤_, min}
+use Prim.Native.Nat.{ℕ, _+_, _*_, _-_, _/_, _^_, _<_}
 use native.Mathlib.Omega.{arith}
 use lib.IntN.{ℤ}
 use lib.ListN.{length}
@@ -23,51 +17,8 @@ use Rattle.passes.specs.Passes.{Takes, Area}
 use Rattle.passes.specs.Pairs.{endedRow, PairBack, PairsPlaced}
 use Rattle.passes.specs.Levels.{levelOf}
 use Rattle.passes.proofs.PairPlaces.{at}
-use Rattle.passes.proofs.Rolling.{Rolled, begin-more, begun-changed, begun-new, end-more, ended-changed, ended-is, ended-new, ended-takes, highs-near, lows-near, place-more, placed-changed, placed-new, rows-begin}
-
--- ---- how far the stages are ahead of each other
-pub record Ahead (m n b q : ℕ) : Type 0 where
-  pub near : n ≤ b
-  pub most : b ≤ n + 2
-  pub order : b ≤ q
-  pub room : q ≤ n + 4
-  pub top : q ≤ m
-  pub far : b < m → n ≤ b - 2
-
-pub ahead-none : (m : ℕ) → Ahead m 0 0 0
-ahead-none m = record { near = omega arith; most = omega arith; order = omega arith; room = omega arith; top = omega arith; far = λ h. omega arith }
-
-abbrev pub begunTo : ℕ → ℕ → ℕ
-begunTo m n = min (n + 3) m
-
-abbrev pub placedTo : ℕ → ℕ → ℕ
-placedTo m n = min (n + 5) m
-
-module _ {m n b q f g : ℕ} (h : n < m) (s : Ahead m n b q) (x : f ≡ begunTo m n) (y : g ≡ placedTo m n) where
-  pub ahead-more : Ahead m (n + 1) f g
-  ahead-more = record {
-    near = omega (arith, x);
-    most = omega (arith, x);
-    order = omega (arith, x, y);
-    room = omega (arith, y);
-    top = omega (arith, y);
-    far = λ l. omega (arith, x);
-  }
-
-  pub more-begun : b ≤ f
-  more-begun = omega (arith, x, s .most, s .order, s .top)
-
-  pub more-placed : q ≤ g
-  more-placed = omega (arith, y, s .room, s .top)
-
-  pub begin-ahead : min (f + 2) m ≤ g
-  begin-ahead = rw (x, y) (omega arith)
-
-  pub end-ahead : min (n + 2) m ≤ f
-  end-ahead = rw x (omega arith)
-
-  pub far-back : b < f → n ≤ b - 2
-  far-back l = s .far (omega (arith, ahead-more .order, ahead-more .top))
+use Rattle.passes.proofs.Swept.{place-more, begin-more, end-more, Ahead, begunTo, placedTo, ahead-more, more-begun, more-placed, begin-ahead, end-ahead, far-back}
+use Rattle.passes.proofs.Rolling.{Rolled, pairs-apart, begun-changed, begun-new, ended-changed, ended-is, ended-new, ended-takes, highs-near, lows-near, placed-changed, placed-new, rows-begin}
 
 pub pairs-area : {S w h size : ℕ} → Area S w h size → Area S w (2 * (h / 2)) size
 pairs-area {h = h} z = let e : 2 * (h / 2) ≡ h = omega (arith, z .even-h) in rw e z
@@ -79,7 +30,7 @@ module _ (k : Kernel) (W S w h : ℕ) (p u : List ℤ) (y : Area W w h (length p
   module _ {l l₁ : List ℤ} (r : Rolled k (levelOf W S w h p u) (h / 2) S w u n b q l) (t : PairsPlaced W S w (h / 2) q g p l l₁) where
     after-place : Rolled k (levelOf W S w h p u) (h / 2) S w u n b g l₁
     after-place = let a = ahead-more lt s x v in
-        place-more (z .wide) r (s .near) (s .order) (more-placed lt s x v) (a .top) (placed-changed p u l l₁ y (z .wide) r t) (placed-new p u l l₁ y (z .wide) r t (a .top))
+        place-more (pairs-apart S w (h / 2) (z .wide)) r (s .near) (s .order) (more-placed lt s x v) (a .top) (placed-changed p u l l₁ y (z .wide) r t) (placed-new p u l l₁ y (z .wide) r t (a .top))
 
     pub begin-asks : SecondTakes k (at S false n) (at S true n) (2 * S) (g - n) (g - n) w (b - n) (f - n) l₁
     begin-asks = let a = ahead-more lt s x v in
@@ -88,7 +39,7 @@ module _ (k : Kernel) (W S w h : ℕ) (p u : List ℤ) (y : Area W w h (length p
     module _ {l₂ : List ℤ} (t₂ : Both (secondLows true k (g - n)) (secondHighs true k (g - n)) (at S false n) (at S true n) (2 * S) w (b - n) (f - n) (f - n) l₁ l₂) where
       after-begin : Rolled k (levelOf W S w h p u) (h / 2) S w u n f g l₂
       after-begin = let a = ahead-more lt s x v in let bf = more-begun lt s x v in let far = far-back lt s x v in let near = begin-ahead lt s x v in
-          begin-more (z .wide) after-place (s .near) bf (a .order) (a .top)
+          begin-more (pairs-apart S w (h / 2) (z .wide)) after-place (s .near) bf (a .order) (a .top)
           (begun-changed u l₁ (s .near) bf (a .order) (a .top) after-place far near t₂) (begun-new u l₁ (s .near) bf (a .order) (a .top) after-place far near t₂)
 
       some : n < f
@@ -105,4 +56,4 @@ module _ (k : Kernel) (W S w h : ℕ) (p u : List ℤ) (y : Area W w h (length p
 
       pub after-end : {l₃ : List ℤ} → PairBack k (f - n) (at S false n) S w l₂ l₃ → Rolled k (levelOf W S w h p u) (h / 2) S w u (n + 1) f g l₃
       after-end t₃ = let a = ahead-more lt s x v in let near = end-ahead lt s x v in
-          end-more (z .wide) after-begin some (a .order) (a .top) (ended-changed u l₂ some (a .order) (a .top) near after-begin (z .even-w) t₃) (ended-new u l₂ some (a .order) (a .top) near after-begin (z .even-w) t₃)
+          end-more (pairs-apart S w (h / 2) (z .wide)) after-begin some (a .order) (a .top) (ended-changed u l₂ some (a .order) (a .top) near after-begin (z .even-w) t₃) (ended-new u l₂ some (a .order) (a .top) near after-begin (z .even-w) t₃)

@@ -1,5 +1,6 @@
--- Pairs of rows, a low one and the high one behind it, that the way back of a level places and ends.
+-- Pairs of rows that a level places and ends: on the way in two rows of samples, on the way back a low one and the high one behind it.
 --
+--   PairsIn k s w m a b l l′    == l′ is l with the rows of pairs a up to b of the samples s transformed, row 2n in row n and row 2n + 1 behind m rows of lows
 --   PairsPlaced W S w m a b p u u′
 --                               == u′ is u with pairs a up to b from the plane p of rows of W, with m rows of lows: the right part of the low row, and the high row
 --   endedRow high k M s t l     == the row at s, or the one t behind it, after the first step of its columns is undone, of which M lows are left
@@ -14,10 +15,11 @@ use lib.IntN.{ℤ}
 use lib.ListN.{length}
 use Rattle.kernel.specs.declared.Kernel.{Kernel}
 use Rattle.line.specs.Cells.{Line, cell}
-use Rattle.line.specs.Transform.{back}
+use Rattle.line.specs.Transform.{forward, back}
 use Rattle.grid.specs.Picture.{lowSide}
 use Rattle.lifting.specs.Parts.{lane}
 use Rattle.lifting.specs.Lines.{firstLows, firstHighs}
+use Rattle.passes.specs.Passes.{pictured}
 
 abbrev pub endedRow : Bool → Kernel → ℕ → ℕ → ℕ → List ℤ → Line ℤ
 endedRow false k M s t l x = firstLows true k (lane s (2 * t) l x) (lane (s + t) (2 * t) l x) 0
@@ -35,3 +37,9 @@ pub record PairsPlaced (W S w m a b : ℕ) (p u u′ : List ℤ) : Type 0 where
   pub high : (i x : ℕ) → a ≤ i → i < b → x < w → cell u′ (2 * i * S + S + x) ≡ cell p ((m + i) * W + x)
   pub off : (j : ℕ) → ((i x : ℕ) → a ≤ i → i < b → lowSide w ≤ x → x < w → j ≡ 2 * i * S + x → ⊥) → ((i x : ℕ) → a ≤ i → i < b → x < w → j ≡ 2 * i * S + S + x → ⊥)
       → cell u′ j ≡ cell u j
+
+pub record PairsIn (k : Kernel) (s : List ℕ) (w m a b : ℕ) (l l′ : List ℤ) : Type 0 where
+  pub size : length l′ ≡ length l
+  pub low : (i x : ℕ) → a ≤ i → i < b → x < w → cell l′ (i * w + x) ≡ forward k w (pictured w s (2 * i)) x
+  pub high : (i x : ℕ) → a ≤ i → i < b → x < w → cell l′ ((m + i) * w + x) ≡ forward k w (pictured w s (2 * i + 1)) x
+  pub off : (j : ℕ) → ((i x : ℕ) → a ≤ i → i < b → x < w → j ≡ i * w + x → ⊥) → ((i x : ℕ) → a ≤ i → i < b → x < w → j ≡ (m + i) * w + x → ⊥) → cell l′ j ≡ cell l j

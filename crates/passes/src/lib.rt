@@ -8,11 +8,10 @@ ghost use Rattle.line.specs.Inner.{AllWithin};
 ghost use Rattle.line.specs.Transform.{forward, back};
 ghost use Rattle.grid.specs.Picture.{rowPass, colPass, turned, picture};
 ghost use Rattle.grid.specs.Buffer.{strided, InBuffer, Lines};
-ghost use Rattle.grid.specs.Placed.{parted, woven, onWoven};
 ghost use Rattle.runs.specs.Cells.{Written};
 ghost use Rattle.lifting.specs.Parts.{Parts, Bounded};
 ghost use Rattle.passes.specs.Passes.{lineTransform, pictured, Takes, Area};
-ghost use Rattle.passes.specs.Pairs.{PairsPlaced, endedRow, PairBack};
+ghost use Rattle.passes.specs.Pairs.{PairsIn, PairsPlaced, endedRow, PairBack};
 ghost use Rattle.passes.specs.Levels.{levelOf, LevelBack};
 use kernel::Kernel;
 
@@ -91,17 +90,6 @@ pub fn col_pass(kernel: Kernel, l: &mut [i32], q: &mut [i32], stride: usize, w: 
     }
 }
 
-// The column pass in place, forward, whole rows against whole rows, where the odd rows stand behind the even ones.
-pub fn columns(kernel: Kernel, l: &mut [i32], stride: usize, w: usize, h: usize)
-    requires { ⌜ Area stride w h (length (now l)) ⌝ }
-    requires { ⌜ ((x : ℕ) → x < w → Takes false h (woven h (turned (picture (pos 0) stride (now l)) x))) ⌝ }
-    ensures { λ _. ⌜ picture (pos 0) stride (now (l .exit)) ≡ colPass (onWoven (forward kernel)) w h (picture (pos 0) stride (now (l .entry))) ⌝ }
-{
-    let highs = h / 2;
-    let lows = h - highs;
-    lifting::forward(kernel, l, 0, lows * stride, stride, lows, highs, w);
-}
-
 // Of a level's coefficients, from the plane: the right part of low row n to row 2n, and high row n, behind all low rows, to row 2n + 1, for n from
 // a up to b.
 fn place_pairs(
@@ -162,7 +150,19 @@ fn pair_back(
     requires { ⌜ Takes true w (endedRow false kernel lows at stride (now l)) × Takes true w (endedRow true kernel lows at stride (now l)) ⌝ }
     ensures { λ _. ⌜ PairBack kernel lows at stride w (now (l .entry)) (now (l .exit)) ⌝ }
 {
-    lifting::first_step(kernel, true, l, at, at + stride, 2 * stride, lows, 1, w);
+    lifting::first_step(
+        kernel,
+        true,
+        l,
+        at,
+        at + stride,
+        2 * stride,
+        lows,
+        1,
+        w,
+        0,
+        1,
+    );
     row(kernel, true, l, q, at, w);
     row(kernel, true, l, q, at + stride, w);
 }
@@ -215,14 +215,6 @@ pub fn level_back(
     }
 }
 
-// Which row comes to row i where the odd rows stand behind the even ones, which are as many as the lows.
-fn source_row(lows: usize, i: usize) -> usize
-    requires { ⌜ (lows < 2 ^ 32) × (i < 2 ^ 32) ⌝ }
-    ensures { λ r. ⌜ ((i < lows → r ≡ 2 * i) × (lows ≤ i → r ≡ 2 * (i - lows) + 1)) ⌝ }
-{
-    if i < lows { 2 * i } else { 2 * (i - lows) + 1 }
-}
-
 // Transforms a row of w samples from `from` on, and stores it from `at` on.
 fn row_in(kernel: Kernel, samples: &[u16], l: &mut [i32], from: usize, at: usize, w: usize)
     requires { ⌜ (0 < w) × (w % 2 ≡ 0) × (w < 2 ^ 32) ⌝ }
@@ -236,15 +228,61 @@ fn row_in(kernel: Kernel, samples: &[u16], l: &mut [i32], from: usize, at: usize
     lifting::forward(kernel, l, at, at + lows, 1, lows, highs, 1);
 }
 
-// The row pass over a picture of w by h samples, each row stored where it ends: the even rows in front, the odd ones behind.
-pub fn rows_in(kernel: Kernel, samples: &[u16], l: &mut [i32], w: usize, h: usize)
+// The rows of pairs a up to b of a picture, transformed and stored where they end: row 2n in row n, row 2n + 1 in row n behind the rows of lows.
+fn pairs_in(
+    kernel: Kernel,
+    samples: &[u16],
+    l: &mut [i32],
+    w: usize,
+    lows: usize,
+    a: usize,
+    b: usize,
+)
+    requires { ⌜ (a ≤ b) × (b ≤ lows) ⌝ }
+    requires { ⌜ Area w w (2 * lows) (length (now l)) ⌝ }
+    requires { ⌜ (length (now l) ≡ 2 * lows * w) × (length (now samples) ≡ 2 * lows * w) ⌝ }
+    requires { ⌜ ((y : ℕ) → y < 2 * lows → AllWithin (5 * 2 ^ 22) w (pictured w (now samples) y)) ⌝ }
+    ensures { λ _. ⌜ PairsIn kernel (now (samples .entry)) w lows a b (now (l .entry)) (now (l .exit)) ⌝ }
+{
+    for n in a..b {
+        row_in(kernel, samples, l, 2 * n * w, n * w, w);
+        row_in(kernel, samples, l, (2 * n + 1) * w, (lows + n) * w, w);
+    }
+}
+
+// A level of a picture of w by h samples, into the plane. Rows are transformed and stored where they end, the first step of their columns is done
+// behind them, and behind that the second, all while they are in the cache: the second step of kernel 2 looks two rows back and ahead.
+pub fn level_in(kernel: Kernel, samples: &[u16], l: &mut [i32], w: usize, h: usize)
     requires { ⌜ Area w w h (length (now l)) ⌝ }
     requires { ⌜ (length (now l) ≡ h * w) × (length (now samples) ≡ h * w) ⌝ }
     requires { ⌜ ((y : ℕ) → y < h → AllWithin (5 * 2 ^ 22) w (pictured w (now samples) y)) ⌝ }
-    ensures { λ _. ⌜ picture (pos 0) w (now (l .exit)) ≡ colPass parted w h (rowPass (forward kernel) w h (pictured w (now (samples .entry)))) ⌝ }
+    requires { ⌜ ((x : ℕ) → x < w → AllWithin (5 * 2 ^ 22) h (turned (rowPass (forward kernel) w h (pictured w (now samples))) x)) ⌝ }
+    ensures { λ _. ⌜ picture (pos 0) w (now (l .exit)) ≡ colPass (forward kernel) w h (rowPass (forward kernel) w h (pictured w (now (samples .entry)))) ⌝ }
 {
-    for i in 0..h {
-        let y = source_row(h - h / 2, i);
-        row_in(kernel, samples, l, y * w, i * w, w);
+    let highs = h / 2;
+    let lows = h - highs;
+    let mut placed: usize = 0;
+    let mut begun: usize = 0;
+    for n in 0..highs {
+        let to_place = whole::least(highs, n + 5);
+        let to_begin = whole::least(highs, n + 3);
+        let b = lows * w;
+        pairs_in(kernel, samples, l, w, lows, placed, to_place);
+        lifting::first_step(
+            kernel,
+            false,
+            l,
+            0,
+            b,
+            w,
+            to_place,
+            to_place,
+            w,
+            begun,
+            to_begin,
+        );
+        lifting::second_step(kernel, false, l, 0, b, w, to_begin, to_begin, w, n, n + 1);
+        placed = to_place;
+        begun = to_begin;
     }
 }

@@ -10,16 +10,15 @@ use lib.IntN.{ℤ, pos}
 use lib.ListN.{length}
 use Rattle.kernel.specs.declared.Kernel.{Kernel}
 use Rattle.line.specs.Cells.{cell}
+use Rattle.line.specs.Inner.{AllWithin}
 use Rattle.line.specs.Transform.{forward, back}
 use Rattle.line.proofs.Cells.{by-lt}
 use Rattle.line.proofs.Bounds.{within-more}
 use Rattle.grid.specs.Buffer.{Halves}
 use Rattle.grid.specs.Picture.{Picture, rowPass, turned, colPass}
-use Rattle.grid.specs.Placed.{parted, woven, onWoven}
 use Rattle.grid.proofs.Passes as grid
 use Rattle.grid.proofs.Levels.{halves-more, back-none, back-more}
 use Rattle.grid.proofs.Outside.{back-below, back-right}
-use Rattle.grid.proofs.Parted.{row-cell, cols-on-parted, woven-local, woven-parted}
 use Rattle.grid.proofs.Alike.{Alike, rows-alike, cols-alike}
 use Rattle.plane.specs.Inner.{Below}
 use Rattle.plane.specs.Plane.{undone}
@@ -101,20 +100,13 @@ module _ {n w h : ℕ} {P : Picture ℤ} (some : 0 < n) (few : n ≤ 5) where
     pub cols-below : h % 2 ≡ 0 → Below (3 * areaBound n + 2) w h P → Q ≡ colPass (forward k) w h P → Below (areaBound (n - 1)) (w / 2) (h / 2) Q
     cols-below even all e = rw e (below-part (w / 2) (h / 2) (below-more (col-all k w h (3 * areaBound n + 2) P even all) (bounds n some few .1)) (omega arith) (omega arith))
 
--- ---- the first level, whose rows stand where they end
+-- ---- the first level, from the samples
 module _ {n w h : ℕ} {P : Picture ℤ} (k : Kernel) (some : 0 < n) (few : n ≤ 5) (halves : Halves n w h) (all : Below (areaBound n) w h P) where
   rows-first : Below (3 * areaBound n + 2) w h (rowPass (forward k) w h P)
   rows-first = row-all k w h (areaBound n) P (halves-more n w h some halves .0) all
 
-  pub first-take : {Q : Picture ℤ} → Q ≡ colPass parted w h (rowPass (forward k) w h P) → (x : ℕ) → x < w → Takes false h (woven h (turned Q x))
-  first-take e x q =
-      let even = halves-more n w h some halves .1 in let R = rowPass (forward k) w h P in
-      rw e (takes-agree false h (turned R x) (woven h (turned (colPass parted w h R) x)) even
-      (λ y p. sym (woven-local h (turned (colPass parted w h R) x) (parted h (turned R x)) even (λ v r. row-cell parted h w x v (turned R) q r) y p ∙ woven-parted h (turned R x) even y p))
-      (cols-take some few rows-first x q))
-
-  pub first-level : {Q R : Picture ℤ} → Q ≡ colPass parted w h (rowPass (forward k) w h P) → R ≡ colPass (onWoven (forward k)) w h Q → R ≡ colPass (forward k) w h (rowPass (forward k) w h P)
-  first-level e d = d ∙ ap (colPass (onWoven (forward k)) w h) e ∙ cols-on-parted (forward k) (line-local false k) w h (rowPass (forward k) w h P) (halves-more n w h some halves .1)
+  pub first-take : (x : ℕ) → x < w → AllWithin (5 * 2 ^ 22) h (turned (rowPass (forward k) w h P) x)
+  first-take x q = cols-take some few rows-first x q .takes
 
   pub first-below : {R : Picture ℤ} → R ≡ colPass (forward k) w h (rowPass (forward k) w h P) → Below (areaBound (n - 1)) (w / 2) (h / 2) R
   first-below e = cols-below some few k (halves-more n w h some halves .1) rows-first e

@@ -59,7 +59,7 @@ fn cols(
     rows(kernel, l, q, stride, w / 2, h / 2, levels - 1);
 }
 
-// The first level stores each row where it ends, and lifts its columns there as whole rows; the levels below have no second buffer.
+// The first level stores each row of samples where it ends, and lifts its columns there as whole rows; the levels below have no second buffer.
 fn transform_all(
     kernel: Kernel,
     levels: usize,
@@ -72,8 +72,7 @@ fn transform_all(
     requires { ⌜ Below 1023 w h (samplesOf w (now samples)) ⌝ }
     ensures { λ _. ⌜ Result (pos 0) true (λ i. transformed kernel levels w h (samplesOf w (now (samples .entry))) (i / w) (i % w)) (now (plane .entry)) (now (plane .exit)) ⌝ }
 {
-    passes::rows_in(kernel, samples, plane, w, h);
-    passes::columns(kernel, plane, w, w, h);
+    passes::level_in(kernel, samples, plane, w, h);
     let mut q = [0i32; 32768];
     rows(kernel, plane, &mut q, w, w / 2, h / 2, levels - 1);
 }

@@ -1,7 +1,7 @@
 -- `lifting::back` takes lines back by any kernel, in two steps. Assumes nothing.
 use native.Mathlib.Omega.{arith}
 use borrow.Author.Needs.{needs}
-use Rattle.lifting.proofs.Rows.{parts-as, bounded-more}
+use Rattle.lifting.proofs.Rows.{parts-as, bounded-more, rows-bounded}
 use Rattle.lifting.proofs.TwoSteps.{takes-all, undone-bounded, steps-undone}
 use Rattle.lifting.proofs.back.Statement.{statement}
 use Rattle.lifting.proofs.back.Tie as tie
@@ -12,6 +12,6 @@ back-spec =
     (λ c κs. let s = c .before in let a = s .args in
     ((omega arith, omega (arith, s .pre .0), omega arith), (s .pre .1 .0, takes-all (a .highs) (s .pre .1 .1 .0) (bounded-more (s .pre .1 .1 .1) (omega arith)) (omega (arith, s .pre .0)) (omega arith) (a .kernel))))
     (λ c κs. let s = c .before .before .before .before in let e = s .pre .0 .0 in let f = c .before .before .second-step .ensures in let d = undone-bounded (s .args .kernel) (rw e at (s .pre .1 .1 .0)) (s .pre .1 .1 .1) (rw e at f) in
-    ((s .pre .0 .1, omega (arith, s .pre .0)), (parts-as (s .pre .1 .0) (f .size), (rw e (d .0), d .1))))
+    ((omega arith, omega (arith, s .pre .0), omega arith), (parts-as (s .pre .1 .0) (f .size), (rw e (d .0), rows-bounded _ (d .1) (omega arith)))))
     (λ c. search needs)
     (λ c. let s = c .before .before .before .before .before .before in let e = s .pre .0 .0 in rw e (steps-undone (s .args .kernel) (rw e at (c .before .before .before .before .second-step .ensures)) (rw e at (c .before .first-step .ensures)))))

@@ -9,8 +9,9 @@ use Rattle.lifting.proofs.Rows.{parts-as}
 use Rattle.passes.specs.Levels.{levelOf}
 use Rattle.passes.proofs.Running.{half-left, area-same}
 use Rattle.passes.proofs.PairPlaces.{row-places}
-use Rattle.passes.proofs.Rolling.{Rolled, rolled-none, parts-at, level-done}
-use Rattle.passes.proofs.Turns.{Ahead, ahead-none, ahead-more, more-begun, more-placed, pairs-area, begin-asks, end-asks, after-end}
+use Rattle.passes.proofs.Swept.{swept-none, Ahead, ahead-none, ahead-more, more-begun, more-placed}
+use Rattle.passes.proofs.Rolling.{Rolled, parts-at, level-done}
+use Rattle.passes.proofs.Turns.{pairs-area, begin-asks, end-asks, after-end}
 use Rattle.passes.proofs.level_back.Statement.{statement}
 use Rattle.passes.proofs.level_back.Tie as tie
 
@@ -44,7 +45,7 @@ level-back-spec =
     Inv-loop
     μ-loop
     (λ c. omega arith)
-    (λ c. (refl, omega arith, ahead-none _, rolled-none))
+    (λ c. (refl, omega arith, ahead-none _, swept-none))
     (λ c. omega (arith, c .before .before .pre .0 .h-most))
     (λ c κs. search needs)
     (λ c. omega (arith, c .before .before .before .pre .0 .h-most))

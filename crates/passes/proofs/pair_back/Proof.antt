@@ -1,6 +1,7 @@
 -- `passes::pair_back` ends the columns of a pair of rows, and takes both rows back. Assumes nothing.
 use native.Mathlib.Omega.{arith}
 use borrow.Author.Needs.{needs}
+use Rattle.lifting.proofs.Rows.{rows-bounded}
 use Rattle.passes.proofs.Pairs.{low-inside, low-takes, high-inside, high-takes, pair-back}
 use Rattle.passes.proofs.pair_back.Statement.{statement}
 use Rattle.passes.proofs.pair_back.Tie as tie
@@ -10,7 +11,7 @@ pair-back-spec =
     tie.close (tie.spec
     (λ c. let g = c .before .pre .0 .1 in omega (arith, g .second .place 0 0 (omega arith) (g .lines)))
     (λ c. let g = c .before .pre .0 .1 in omega (arith, g .second .place 0 0 (omega arith) (g .lines)))
-    (λ c κs. let s = c .before in ((omega arith, s .pre .0 .0), (s .pre .0 .1, (s .pre .1 .1 .0, s .pre .1 .1 .1 .0))))
+    (λ c κs. let s = c .before in ((omega arith, s .pre .0 .0, omega arith), (s .pre .0 .1, (s .pre .1 .1 .0, rows-bounded 1 (s .pre .1 .1 .1 .0) (omega arith)))))
     (λ c κs. let s = c .before .before .before .before .before in let a = s .args in let some = s .pre .0 .0 in let g = s .pre .0 .1 in let v = s .pre .1 .0 in let f = c .before .before .before .first-step .ensures in
     ((g .lines, v .0, omega (arith, v), v .2), (low-inside (a .kernel) (a .lows) (a .at) (a .stride) (a .w) some g (v .0) (v .3) f, low-takes (a .kernel) (a .lows) (a .at) (a .stride) (a .w) some g (v .0) (v .3) f (s .pre .1 .1 .1 .1 .0))))
     (λ c. let g = c .before .before .before .before .before .before .before .before .before .before .pre .0 .1 in omega (arith, g .second .place 0 0 (omega arith) (g .lines)))
