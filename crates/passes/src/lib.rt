@@ -261,12 +261,12 @@ pub fn level_in(kernel: Kernel, samples: &[u16], l: &mut [i32], w: usize, h: usi
 {
     let highs = h / 2;
     let lows = h - highs;
+    let b = lows * w;
     let mut placed: usize = 0;
     let mut begun: usize = 0;
     for n in 0..highs {
         let to_place = whole::least(highs, n + 5);
         let to_begin = whole::least(highs, n + 3);
-        let b = lows * w;
         pairs_in(kernel, samples, l, w, lows, placed, to_place);
         lifting::first_step(
             kernel,

@@ -17,11 +17,11 @@ use Rattle.passes.proofs.level_in.Statement.{statement}
 use Rattle.passes.proofs.level_in.Tie as tie
 
 abbrev Inv-loop : tie.InvT-loop
-Inv-loop kernel samples l₀ w h highs lows placed₀ begun₀ n₀ l placed begun n =
+Inv-loop kernel samples l₀ w h highs lows b placed₀ begun₀ n₀ l placed begun n =
     (n ≤ h / 2) × Ahead (h / 2) n begun placed × Rising kernel (rowPass (forward kernel) w h (pictured w samples)) (h / 2) w l₀ n begun placed l
 
 abbrev μ-loop : tie.MeasureT-loop
-μ-loop kernel samples l₀ w h highs lows placed₀ begun₀ n₀ l placed begun n = highs - n
+μ-loop kernel samples l₀ w h highs lows b placed₀ begun₀ n₀ l placed begun n = highs - n
 
 -- a turn, from where it is known how far pairs are stored and begun
 abbrev start : tie.After-least2 Inv-loop μ-loop → tie.Start Inv-loop μ-loop
@@ -48,12 +48,12 @@ level-in-spec =
     Inv-loop
     μ-loop
     (λ c. omega arith)
+    (λ c. let s = c .before in let a = s .args in let le : (a .h - a .h / 2) * a .w ≤ a .h * a .w = mul-le-mul-right (a .w) (omega arith) in omega (arith, le, s .pre .1 .0))
     (λ c. (omega arith, ahead-none _, swept-none))
     (λ c. omega (arith, c .before .before .before .pre .0 .h-most))
     (λ c κs. search needs)
     (λ c. omega (arith, c .before .before .before .before .pre .0 .h-most))
     (λ c κs. search needs)
-    (λ c. let s = start c in let a = s .args in let le : (a .h - a .h / 2) * a .w ≤ a .h * a .w = mul-le-mul-right (a .w) (omega arith) in omega (arith, le, s .pre .1 .0))
     (λ c κs. let t = c .before in let s = start t in let a = s .args in let i = turn t .loop in let e : 2 * (a .h / 2) ≡ a .h = omega (arith, s .pre .0 .even-h) in
     rw (even t) ((more-placed (t .before .before .loop-test .taken) (i .inv .1) (begun t) (stored t), ahead t .top), (area-same (pairs-area (s .pre .0)) (i .inv .2 .size), (rw e (i .inv .2 .size ∙ s .pre .1 .0 .0, s .pre .1 .0 .1), (λ y p. s .pre .1 .1 .0 y (omega arith))))))
     (λ c κs. let t = c .before .before .before .before in let s = start t in let a = s .args in let i = turn t .loop in let p = rw (even t) at (c .before .before .pairs-in .ensures) in let q = first-asks (a .kernel) (a .samples .now) (a .w) (a .h) (a .l .now) (s .pre .1 .1 .1) (t .before .before .loop-test .taken) (i .inv .1) (begun t) (stored t) (i .inv .2) p in
