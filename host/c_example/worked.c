@@ -138,11 +138,51 @@ static void check_cuts(void) {
     expect(memcmp(shown, wide_cut_shown, sizeof shown) == 0, "8 by 4: shown samples");
 }
 
+/* Kernel 3, two levels, depth 8, 3 by 3 samples, the rectangle 2 2 1 1: each line has an unpaired sample. */
+static const uint16_t odd_samples[9] = {10, 7, 49, 4, 4, 1, 20, 9, 30};
+static const uint32_t odd_numbers[4] = {2, 2, 1, 1};
+static const int32_t odd_plane[9] = {11, 11, -11, -2, -29, -5, 0, -28, 21};
+static const uint8_t odd_mask[9] = {1, 1, 0, 1, 1, 1, 0, 1, 1};
+static const uint8_t odd_written[29] = {0x00, 0x00, 0x00, 0x19, 0x01, 0x03, 0x02, 0x08, 0x00, 0x03, 0x00, 0x03,
+                                        0x01, 0x05, 0x00, 0x02, 0x00, 0x02, 0x00, 0x01, 0x00, 0x01, 0x1b, 0xa9,
+                                        0x43, 0xfe, 0x1b, 0x4c, 0x50};
+/* Of the stream cut to its region mark; 30 stands in the rectangle. */
+static const int32_t odd_cut_undone[9] = {8, 8, 47, 3, 4, 0, 20, 9, 30};
+
+static void check_odd(void) {
+    uint8_t mask[9], stream[29], cut[28];
+    int32_t plane[9], undone[9];
+    uint64_t results[4];
+    expect(dhiirqobaal_transform(3, 2, 8, 3, 3, odd_samples, 9, plane, 9) == 0, "3 by 3: transform");
+    expect(memcmp(plane, odd_plane, sizeof plane) == 0, "3 by 3: coefficients");
+    expect(dhiirqobaal_write(plane, 9, odd_numbers, 4, 3, 2, 8, 3, 3, mask, 9, stream, 29, results, 3) == 0, "3 by 3: write");
+    expect(results[0] == 29 && results[1] == 28 && results[2] == 7, "3 by 3: lengths and marks");
+    expect(memcmp(stream, odd_written, 29) == 0, "3 by 3: stream");
+    expect(memcmp(mask, odd_mask, 9) == 0, "3 by 3: mask");
+    expect(dhiirqobaal_cut(stream, 29, 28, plane, 9, mask, 9, cut, 28, results, 1) == 0, "3 by 3: cut");
+    expect(dhiirqobaal_read(cut, 28, plane, 9, mask, 9, results, 4) == 0, "3 by 3: cut read");
+    expect(results[1] == 1 && results[2] == 28 && results[3] == 3, "3 by 3: numbers read");
+    expect(dhiirqobaal_undo(3, 2, 3, 3, plane, 9, undone, 9) == 0, "3 by 3: cut undone");
+    expect(memcmp(undone, odd_cut_undone, sizeof undone) == 0, "3 by 3: undone numbers");
+}
+
+/* Every size within the limits is taken under every J. */
+static void check_sizes(void) {
+    const uint16_t dark[24] = {0};
+    int32_t plane[24];
+    expect(dhiirqobaal_transform(0, 2, 8, 6, 4, dark, 24, plane, 24) == 0, "6 by 4, two levels");
+    expect(dhiirqobaal_transform(0, 5, 8, 1, 1, dark, 1, plane, 1) == 0, "1 by 1, five levels");
+    expect(dhiirqobaal_transform(0, 2, 8, 0, 4, dark, 0, plane, 0) == 4, "0 by 4");
+    expect(dhiirqobaal_transform(0, 2, 8, 4097, 4, dark, 24, plane, 24) == 4, "4,097 by 4");
+}
+
 int main(void) {
     check_pictures();
     check_streams();
     check_changed();
     check_cuts();
+    check_odd();
+    check_sizes();
     printf("%d passed, %d failed\n", passed, failed);
     return failed != 0;
 }

@@ -6,7 +6,7 @@
  *
  * TERMS
  *   W, H       width and height of a picture, 1 to 4,096 each
- *   J          levels, 1 to 5; W and H are multiples of 2^J
+ *   J          levels, 1 to 5, whatever W and H are
  *   D          depth in bits, 1 to 10; a sample is 0 to 2^D - 1
  *   kernel     0 S, 1 S+P (A), 2 TT, 3 the 5/3 of ITU-T T.800
  *   rectangle  four numbers, x, y, width and height; (0, 0) is the upper left sample
@@ -24,7 +24,7 @@
  * empty buffer, is aligned for its element, and leads to that many initialised elements. A buffer that is written
  * overlaps no other buffer of the call. Nothing is kept after a call. No buffer is lengthened or shortened.
  * A call allocates nothing; it keeps its working memory on the stack, at most as much as its description says
- * (measured by host/stack on pictures of 4,096 by 4,096 with five levels).
+ * (measured by host/stack on pictures of 4,096 by 4,096, 4,095 by 61 and 61 by 4,095 with five levels).
  *
  * REFUSALS
  * Every function returns 0 (accepted) or the number of a refusal. No input has to be tested before a call. A
@@ -34,7 +34,7 @@
  *    1  kernel not 0 to 3
  *    2  J not 1 to 5
  *    3  D not 1 to 10; in dhiirqobaal_truncate, which has no D, q above 22
- *    4  W or H not 1 to 4,096 or, in a call with J, not a multiple of 2^J
+ *    4  W or H not 1 to 4,096
  *    5  a picture, region, mask, plane or undone buffer is not W * H elements long
  *    6  a sample above 2^D - 1
  *    7  the number of rectangle numbers is not a multiple of 4, or there are more than 32 rectangles
@@ -160,7 +160,7 @@ enum dhiirqobaal_body_result {
 /*
  * The region of rectangles.
  *   numbers  x, y, width, height of each rectangle in turn; at most 32 rectangles, none and overlapping ones allowed
- *   w, h     W and H; no J, so that any size from 1 to 4,096 is taken
+ *   w, h     W and H
  *   region   written, W * H bytes
  * Refusals in their order: 4, 7, 8, 5 (region).
  * Accepted: region is 1 at every sample inside any rectangle and 0 at all others. Under each refusal: as it was.
@@ -208,7 +208,7 @@ uint64_t dhiirqobaal_undo(size_t kernel, size_t levels, size_t w, size_t h, cons
 
 /*
  * Brings undone numbers into range.
- *   depth, w, h  D, W and H; no J, so that any size from 1 to 4,096 is taken
+ *   depth, w, h  D, W and H
  *   undone       W * H numbers of any value
  *   shown        written, W * H samples
  * Refusals in their order: 3, 4, 5 (undone or shown).
@@ -222,7 +222,7 @@ uint64_t dhiirqobaal_show(size_t depth, size_t w, size_t h, const int32_t *undon
 /*
  * Drops the lowest q planes of every unmarked coefficient, in place.
  *   q      0 to 22
- *   w, h   W and H; no J, so that any size from 1 to 4,096 is taken
+ *   w, h   W and H
  *   mask   W * H bytes, each 0 or 1
  *   plane  read and written, W * H coefficients with magnitudes below 2^22
  * Refusals in their order: 3 (q above 22), 4, 5 (mask or plane), 9 (mask), 10.

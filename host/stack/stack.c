@@ -1,7 +1,8 @@
 /*
- * Measures how much of the stack each function of the C interface uses on pictures of 4,096 by 4,096 with five
- * levels, the largest number over the four kernels. A call runs on a thread of its own; its stack is painted with a
- * pattern first, and the lowest place where the pattern is gone afterwards is how deep the call went.
+ * Measures how much of the stack each function of the C interface uses on pictures of 4,096 by 4,096 and on those
+ * with the longest odd rows and columns, with five levels: the largest number over these sizes and the four kernels. A
+ * call runs on a thread of its own; its stack is painted with a pattern first, and the lowest place where the pattern
+ * is gone afterwards is how deep the call went.
  * The last line is 'N passed, M failed': a function passes if it keeps within the limit that its description in
  * dhiirqobaal.h states.
  */
@@ -14,12 +15,11 @@
 #include "dhiirqobaal.h"
 
 #define SIDE ((size_t)DHIIRQOBAAL_MAX_SIDE)
-#define CELLS (SIDE * SIDE)
 #define LEVELS DHIIRQOBAAL_MAX_LEVELS
 #define DEPTH DHIIRQOBAAL_MAX_DEPTH
 #define KERNELS 4
 #define STACK_BYTES ((size_t)1 << 20)
-#define STREAM_BYTES (4 * CELLS)
+#define STREAM_BYTES (4 * SIDE * SIDE)
 #define OWN_WORDS 32 /* below a local variable of the painting function itself, so not painted but counted */
 #define PATTERN UINT64_C(0x9e3779b97f4a7c15)
 
@@ -28,45 +28,46 @@ static int32_t *plane, *undone;
 static uint8_t *region, *mask, *stream, *cut;
 static uint32_t numbers[4 * DHIIRQOBAAL_MAX_RECTANGLES];
 static uint64_t results[DHIIRQOBAAL_READ_RESULTS];
+static size_t width, height, cells;
 static size_t total, region_mark;
 
 static uint64_t call_transform(size_t kernel)
 {
-    return dhiirqobaal_transform(kernel, LEVELS, DEPTH, SIDE, SIDE, samples, CELLS, plane, CELLS);
+    return dhiirqobaal_transform(kernel, LEVELS, DEPTH, width, height, samples, cells, plane, cells);
 }
 
 static uint64_t call_undo(size_t kernel)
 {
-    return dhiirqobaal_undo(kernel, LEVELS, SIDE, SIDE, plane, CELLS, undone, CELLS);
+    return dhiirqobaal_undo(kernel, LEVELS, width, height, plane, cells, undone, cells);
 }
 
 static uint64_t call_show(size_t kernel)
 {
     (void)kernel;
-    return dhiirqobaal_show(DEPTH, SIDE, SIDE, undone, CELLS, shown, CELLS);
+    return dhiirqobaal_show(DEPTH, width, height, undone, cells, shown, cells);
 }
 
 static uint64_t call_region(size_t kernel)
 {
     (void)kernel;
-    return dhiirqobaal_region(numbers, 4 * DHIIRQOBAAL_MAX_RECTANGLES, SIDE, SIDE, region, CELLS);
+    return dhiirqobaal_region(numbers, 4 * DHIIRQOBAAL_MAX_RECTANGLES, width, height, region, cells);
 }
 
 static uint64_t call_mask(size_t kernel)
 {
-    return dhiirqobaal_mask(kernel, LEVELS, SIDE, SIDE, region, CELLS, mask, CELLS);
+    return dhiirqobaal_mask(kernel, LEVELS, width, height, region, cells, mask, cells);
 }
 
 static uint64_t call_truncate(size_t kernel)
 {
     (void)kernel;
-    return dhiirqobaal_truncate(0, SIDE, SIDE, mask, CELLS, plane, CELLS);
+    return dhiirqobaal_truncate(0, width, height, mask, cells, plane, cells);
 }
 
 static uint64_t call_write(size_t kernel)
 {
-    return dhiirqobaal_write(plane, CELLS, numbers, 4 * DHIIRQOBAAL_MAX_RECTANGLES, kernel, LEVELS, DEPTH, SIDE, SIDE,
-                             mask, CELLS, stream, STREAM_BYTES, results, DHIIRQOBAAL_WRITE_RESULTS);
+    return dhiirqobaal_write(plane, cells, numbers, 4 * DHIIRQOBAAL_MAX_RECTANGLES, kernel, LEVELS, DEPTH, width,
+                             height, mask, cells, stream, STREAM_BYTES, results, DHIIRQOBAAL_WRITE_RESULTS);
 }
 
 static uint64_t call_body(size_t kernel)
@@ -78,13 +79,13 @@ static uint64_t call_body(size_t kernel)
 static uint64_t call_read(size_t kernel)
 {
     (void)kernel;
-    return dhiirqobaal_read(stream, total, plane, CELLS, mask, CELLS, results, DHIIRQOBAAL_READ_RESULTS);
+    return dhiirqobaal_read(stream, total, plane, cells, mask, cells, results, DHIIRQOBAAL_READ_RESULTS);
 }
 
 static uint64_t call_cut(size_t kernel)
 {
     (void)kernel;
-    return dhiirqobaal_cut(stream, total, region_mark, plane, CELLS, mask, CELLS, cut, STREAM_BYTES, results,
+    return dhiirqobaal_cut(stream, total, region_mark, plane, cells, mask, cells, cut, STREAM_BYTES, results,
                            DHIIRQOBAAL_CUT_RESULTS);
 }
 
@@ -166,24 +167,46 @@ static void *room(size_t bytes)
     return memory;
 }
 
-/* A slope in every sample, and as many rectangles as there may be. */
+/* The buffers, for the largest picture. */
 static void prepare(void)
 {
-    samples = room(CELLS * sizeof *samples);
-    shown = room(CELLS * sizeof *shown);
-    plane = room(CELLS * sizeof *plane);
-    undone = room(CELLS * sizeof *undone);
-    region = room(CELLS);
-    mask = room(CELLS);
+    size_t most = SIDE * SIDE;
+    samples = room(most * sizeof *samples);
+    shown = room(most * sizeof *shown);
+    plane = room(most * sizeof *plane);
+    undone = room(most * sizeof *undone);
+    region = room(most);
+    mask = room(most);
     stream = room(STREAM_BYTES);
     cut = room(STREAM_BYTES);
     job.stack = room(STACK_BYTES);
-    for (size_t i = 0; i < CELLS; ++i) {
-        samples[i] = (uint16_t)((i % SIDE + i / SIDE) / 8 % 1024);
+}
+
+/* A slope in every sample, and as many rectangles as there may be. */
+static void draw(size_t w, size_t h)
+{
+    width = w;
+    height = h;
+    cells = w * h;
+    for (size_t i = 0; i < cells; ++i) {
+        samples[i] = (uint16_t)((i % w + i / w) / 8 % 1024);
     }
     for (size_t i = 0; i < DHIIRQOBAAL_MAX_RECTANGLES; ++i) {
-        numbers[4 * i] = numbers[4 * i + 1] = (uint32_t)(120 * i);
-        numbers[4 * i + 2] = numbers[4 * i + 3] = 100;
+        numbers[4 * i] = (uint32_t)(w * i / 34);
+        numbers[4 * i + 1] = (uint32_t)(h * i / 34);
+        numbers[4 * i + 2] = (uint32_t)(w / 41 + 1);
+        numbers[4 * i + 3] = (uint32_t)(h / 41 + 1);
+    }
+}
+
+/* Every function under every kernel, on one size. */
+static void run_all(size_t w, size_t h)
+{
+    draw(w, h);
+    for (size_t kernel = 0; kernel < KERNELS; ++kernel) {
+        for (size_t i = 0; i < FUNCTIONS; ++i) {
+            run(&functions[i], kernel);
+        }
     }
 }
 
@@ -191,11 +214,9 @@ int main(void)
 {
     int passed = 0, failed = 0;
     prepare();
-    for (size_t kernel = 0; kernel < KERNELS; ++kernel) {
-        for (size_t i = 0; i < FUNCTIONS; ++i) {
-            run(&functions[i], kernel);
-        }
-    }
+    run_all(SIDE, SIDE);
+    run_all(SIDE - 1, 61);
+    run_all(61, SIDE - 1);
     puts("| function | bytes of stack | KiB | limit, KiB |\n|:--|---:|---:|---:|");
     for (size_t i = 0; i < FUNCTIONS; ++i) {
         const struct function *f = &functions[i];

@@ -70,7 +70,7 @@ static void *zeros(size_t count, size_t size) {
     return memory;
 }
 
-/* The resolutions, the smallest first; each has half the width and height of the next. */
+/* The resolutions, the smallest first; each has half the width and height of the next, rounded up. */
 static struct resolution *make_resolutions(int32_t width, int32_t height, int32_t levels) {
     struct resolution *resolutions = zeros((size_t)levels + 1, sizeof *resolutions);
     for (int32_t i = levels; i >= 0; i--) {

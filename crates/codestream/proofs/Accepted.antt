@@ -18,9 +18,9 @@ use lib.IntN.{ℤ, natAbs}
 use lib.ListN.{length}
 use Rattle.line.specs.Cells.{choose, cell}
 use Rattle.refusal.specs.Numbers.{accepted}
-use Rattle.refusal.specs.Tests.{badKernel, badLevels, badDepth, badSizeAt, badLength, badNumbers, badRectangles, badMagnitude}
+use Rattle.refusal.specs.Tests.{badKernel, badLevels, badDepth, badSize, badLength, badNumbers, badRectangles, badMagnitude}
 use Rattle.refusal.proofs.Ordered.{passes-test, numbered, accepted-both}
-use Rattle.refusal.proofs.Passed.{neither, inside, Sides, multiples}
+use Rattle.refusal.proofs.Passed.{neither, inside, Sides, sides}
 use Rattle.scan.specs.Scan.{largest, planeCount}
 use Rattle.scan.proofs.Largest.{bad-magnitude}
 use Rattle.scan.proofs.PlaneCounts.{plane-count, plane-count-most}
@@ -37,24 +37,21 @@ pub record Setting (k J D W H : ℕ) : Type 0 where
   pub kernel : k < 4
   pub levels : (1 ≤ J) × (J ≤ 5)
   pub depth : (1 ≤ D) × (D ≤ 10)
-  pub size : badSizeAt J W H ≡ false
+  pub size : badSize W H ≡ false
   pub sides : Sides W H
-  pub multiples : (W % 2 ^ J ≡ 0) × (H % 2 ^ J ≡ 0)
 
 pub setting-passed : (k J D W H : ℕ) → accepted (settingTests k J D W H) ≡ true → Setting k J D W H
 setting-passed k J D W H e =
     let a = passes-test (badKernel k) 0 _ e in
     let b = passes-test (badLevels J) 1 _ (a .1) in
     let c = passes-test (badDepth D) 2 _ (b .1) in
-    let d = passes-test (badSizeAt J W H) 3 _ (c .1) in
-    let f = multiples J W H (d .0) in
+    let d = passes-test (badSize W H) 3 _ (c .1) in
     record {
       kernel = leb-false 4 k (a .0);
       levels = inside 1 5 J (b .0);
       depth = inside 1 10 D (c .0);
       size = d .0;
-      sides = f .0;
-      multiples = (f .1, f .2);
+      sides = sides W H (d .0);
     }
 
 pub record Rectangles (W H : ℕ) (rs : List ℕ) : Type 0 where

@@ -1,11 +1,13 @@
 -- From tested buffers to what one level asks, and from its picture to the filled buffer. Assumes nothing.
 use mathlib.Core.Path.{_≡_, sym, ap, _∙_}
-use mathlib.Core.Bool.{true}
+use mathlib.Core.Bool.{true, false, not, _||_}
 use mathlib.Core.List.{List}
 use Prim.Native.Nat.{ℕ, _*_, _-_, _+_, _/_, _%_, _^_, _<_, _≤_}
 use native.Mathlib.Nat.{mul-comm}
 use native.Mathlib.Omega.{arith}
+use borrow.Author.Tests.{eqb-true, not-false}
 use lib.Arith.{digits-lt}
+use lib.Dec.{eqb}
 use lib.IntN.{ℤ, pos, negsuc, natAbs}
 use lib.ListN.{length, getD}
 use Rattle.whole.specs.Within.{Within}
@@ -16,11 +18,18 @@ use Rattle.grid.specs.Picture.{Picture, rowPass, colPass, walk, walkBack, pictu
 use Rattle.grid.proofs.Passes.{cell, cell-of}
 use Rattle.plane.specs.Inner.{Below}
 use Rattle.refusal.specs.Results.{Result}
-use Rattle.refusal.proofs.Passed.{Sides}
+use Rattle.refusal.specs.Tests.{badSize}
+use Rattle.refusal.proofs.Passed.{neither, Sides, sides}
 use Rattle.earlier_passes.specs.Level.{samplesOf, OneLevel}
-use Rattle.comparison.specs.Earlier.{coefficient, undoneNumber}
+use Rattle.comparison.specs.Earlier.{badSides, coefficient, undoneNumber}
 
-pub one-level : {W H m n : ℕ} → Sides W H → W % 2 ^ 1 ≡ 0 → H % 2 ^ 1 ≡ 0 → m ≡ W * H → n ≡ W * H → OneLevel W H m n
+pub even-sides : (W H : ℕ) → badSides W H ≡ false → Sides W H × (W % 2 ≡ 0) × (H % 2 ≡ 0)
+even-sides W H e =
+    let p = neither (badSize W H || not (eqb (W % 2) 0)) (not (eqb (H % 2) 0)) e in
+    let q = neither (badSize W H) (not (eqb (W % 2) 0)) (p .0) in
+    (sides W H (q .0), eqb-true (W % 2) 0 (not-false _ (q .1)), eqb-true (H % 2) 0 (not-false _ (p .1)))
+
+pub one-level : {W H m n : ℕ} → Sides W H → W % 2 ≡ 0 → H % 2 ≡ 0 → m ≡ W * H → n ≡ W * H → OneLevel W H m n
 one-level s p q e f = record {
   some-w = omega (arith, s .width);
   some-h = omega (arith, s .height);

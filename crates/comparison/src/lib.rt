@@ -1,15 +1,22 @@
 // The passes before paper 3 of document 02 for C, one level each way, for the comparison alone. What each promises is what the library's
-// function promises of one level.
+// function promises of one level, of even sides.
 ghost use mathlib.Core.Path.{_≡_};
 ghost use lib.IntN.{pos};
 ghost use lib.ListN.{length};
 ghost use Rattle.refusal.specs.Numbers.{answerNumber, first, accepted};
 ghost use Rattle.refusal.specs.Results.{Result};
-ghost use Rattle.comparison.specs.Earlier.{coefficient, undoneNumber, transformTests, undoTests};
+ghost use Rattle.comparison.specs.Earlier.{badSides, coefficient, undoneNumber, transformTests, undoTests};
 use kernel::Choice;
 use kernel::Kernel;
 use refusal::Answer;
 use refusal::Refusal;
+
+// The earlier passes take even sides only.
+fn bad_sides(w: usize, h: usize) -> bool
+    ensures { λ r. ⌜ r ≡ badSides w h ⌝ }
+{
+    refusal::bad_size(w, h) | (w % 2 != 0) | (h % 2 != 0)
+}
 
 // Samples of at most 10 bits. Refusals, in order: 1, 4, 5, 6.
 fn transform(kernel: usize, w: usize, h: usize, samples: &[u16], plane: &mut [i32]) -> Answer
@@ -19,7 +26,7 @@ fn transform(kernel: usize, w: usize, h: usize, samples: &[u16], plane: &mut [i3
     let Choice::Taken(chosen) = Kernel::new(kernel) else {
         return Answer::Refused(Refusal::Kernel);
     };
-    if refusal::bad_size_at(1, w, h) {
+    if bad_sides(w, h) {
         return Answer::Refused(Refusal::Size);
     }
     let count = w * h;
@@ -44,7 +51,7 @@ fn undo(kernel: usize, w: usize, h: usize, plane: &[i32], undone: &mut [i32]) ->
     let Choice::Taken(chosen) = Kernel::new(kernel) else {
         return Answer::Refused(Refusal::Kernel);
     };
-    if refusal::bad_size_at(1, w, h) {
+    if bad_sides(w, h) {
         return Answer::Refused(Refusal::Size);
     }
     let count = w * h;

@@ -9,18 +9,18 @@ use borrow.Author.Tests.{lt-ltb, le-ltb}
 use lib.IntN.{ℤ, pos}
 use lib.ListN.{length, getD, List·getD-eq-default}
 use Rattle.kernel.specs.declared.Kernel.{Kernel}
+use Rattle.line.specs.Cells.{lowSide}
 use Rattle.line.specs.Transform.{forward, back}
 use Rattle.line.proofs.Cells.{by-lt}
-use Rattle.line.proofs.Bounds.{within-more}
+use Rattle.line.proofs.Bounds.{within-more, back-within}
 use Rattle.grid.specs.Picture.{Picture, rowPass, turned, colPass, picture}
 use Rattle.grid.specs.Buffer.{Taken}
 use Rattle.grid.proofs.Passes.{line-in, pass-in}
 use Rattle.plane.specs.Inner.{Below}
-use Rattle.plane.proofs.Bounds.{row-all}
+use Rattle.plane.proofs.Bounds.{row-all, undo-fits}
 use Rattle.earlier_passes.specs.Written.{Written}
 use Rattle.earlier_passes.specs.Passes.{Takes, Area}
 use Rattle.earlier_passes.specs.Level.{samplesOf, OneLevel}
-use Rattle.earlier_passes.proofs.Bounds.{back-within}
 
 pub level-area : {w h m n : ℕ} (l a b : List ℤ) → OneLevel w h m n → length l ≡ n → 32768 ≤ length a → 32768 ≤ length b → Area w w h l a b
 level-area {w} {h} l a b z e p q = record {
@@ -71,9 +71,9 @@ module _ {w h m n : ℕ} (k : Kernel) (z : OneLevel w h m n) {P : Picture ℤ} (
   rows-take e y p = rw e (record { takes = λ x q. within-more (all .each y x p q) (omega arith) })
 
   pub cols-take : {Q : Picture ℤ} → Q ≡ rowPass (forward k) w h P → (x : ℕ) → x < w → Takes false h (turned Q x)
-  cols-take e x q = rw e (record { takes = λ y p. within-more (row-all k w h 1023 P (z .even-w) all .each y x p q) (omega arith) })
+  cols-take e x q = rw e (record { takes = λ y p. within-more (row-all k w h 1023 P all .each y x p q) (omega arith) })
 
--- ---- back: coefficients within 2^22 − 1, and after the columns within 3 · 2^22 − 1
+-- ---- back: coefficients within 2^22 − 1, and after the columns within 2^24
 module _ {w h m n : ℕ} (k : Kernel) (z : OneLevel w h m n) {P : Picture ℤ} (all : Below (2 ^ 22 - 1) w h P) where
   pub cols-take-back : {Q : Picture ℤ} → Q ≡ P → (x : ℕ) → x < w → Takes true h (turned Q x)
   cols-take-back e x q = rw e (record {
@@ -83,7 +83,7 @@ module _ {w h m n : ℕ} (k : Kernel) (z : OneLevel w h m n) {P : Picture ℤ} (
   cols-back : Below (2 ^ 24) w h (colPass (back k) w h P)
   cols-back = record {
     each = λ y x p q. rw (pass-in (back k) h w x (turned P) q, line-in (back k) h (turned P x) y p)
-        (within-more (back-within k h (2 ^ 22 - 1) (2 ^ 22 - 1) (turned P x) (z .even-h) (λ i r. all .each i x (omega arith) q) (λ i r. all .each (h / 2 + i) x (omega (arith, z .even-h)) q) y p) (omega arith));
+        (within-more (back-within k h (2 ^ 22 - 1) (2 ^ 22 - 1) (turned P x) (λ i r. all .each i x (omega arith) q) (λ i r. all .each (lowSide h + i) x (omega arith) q) y p) (undo-fits k 0 (omega arith) .2));
   }
 
   pub rows-take-back : {Q : Picture ℤ} → Q ≡ colPass (back k) w h P → (y : ℕ) → y < h → Takes true w (Q y)

@@ -13,5 +13,4 @@ pub mod Transfers
 pub mod Places
 pub mod Taking
 pub mod Running
-pub mod Bounds
 pub mod Levels

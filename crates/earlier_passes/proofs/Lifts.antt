@@ -2,14 +2,14 @@
 use mathlib.Core.Path.{_≡_, refl, sym, ap, ap₂, subst, _∙_}
 use mathlib.Core.Bool.{Bool}
 use mathlib.Core.List.{List}
-use Prim.Native.Nat.{ℕ, _+_, _*_, _-_, _/_, _%_, _^_, _<_, _≤_}
+use Prim.Native.Nat.{ℕ, zero, suc, _+_, _*_, _-_, _/_, _%_, _^_, _<_, _≤_}
 use native.Mathlib.Nat.{mul-le-mul-right, add-mul, div-add-mod', mod-lt, div-lt-iff-lt-mul}
 use native.Mathlib.Omega.{arith}
 use lib.IntN.{ℤ}
 use lib.ListN.{length}
 use mir.Syntax.{w64}
 use mir.Val.{Fits}
-use Rattle.line.specs.Cells.{cell}
+use Rattle.line.specs.Cells.{Line, cell}
 use Rattle.line.specs.Formulas.{slopeA, between, smoothing}
 use Rattle.line.specs.Transform.{inside, predict, update}
 use Rattle.line.proofs.Border.{inside-in, inside-here}
@@ -48,14 +48,20 @@ module _ {s : Step} {M n r : ℕ} (c : ℕ) (st : Straight s M n r) (x : List �
     cell-after : cell x (inside M (n + i + d) 0 * c + j) ≡ cell x (inside M (n + d) 0 * c + (i * c + j))
     cell-after = ap (λ (q : ℕ). cell x (q * c + j)) (st .after i d h p) ∙ ap (cell x) (rows-on c (inside M (n + d) 0) i j)
 
-amount-row : (s : Step) (M n r c : ℕ) → Straight s M n r → (x : List ℤ) (i j : ℕ) → i < r
+-- each of M rows has a high of its own
+update-row : (M n : ℕ) (D : Line ℤ) → n < M → update M D n ≡ smoothing (D (inside M n 1)) (D n)
+unfolding update
+update-row zero n D h = absurd (omega arith)
+update-row (suc M) n D h = let e : inside (suc M) n 0 ≡ n = omega (arith, inside-here (suc M) n 0 (omega arith) (omega arith)) in rw e
+
+amount-row : (s : Step) (M n r c : ℕ) → Straight s M n r → n + r ≤ M → (x : List ℤ) (i j : ℕ) → i < r
     → amountAt s x (tapsOf s M c n) (i * c + j) ≡ amount s M (lane c x j) (n + i)
-unfolding predict update
-amount-row SPlusP M n r c st x i j h = sym (ap₂ slopeA (cell-before c st x i j h 1 (omega arith)) (cell-after c st x i j h 1 (omega arith)))
-amount-row TT M n r c st x i j h =
+unfolding predict
+amount-row SPlusP M n r c st top x i j h = sym (ap₂ slopeA (cell-before c st x i j h 1 (omega arith)) (cell-after c st x i j h 1 (omega arith)))
+amount-row TT M n r c st top x i j h =
     rw (cell-before c st x i j h 2 (omega arith), cell-before c st x i j h 1 (omega arith), cell-after c st x i j h 1 (omega arith), cell-after c st x i j h 2 (omega arith))
-amount-row High M n r c st x i j h = sym (ap₂ between (cell-here c st x i j h) (cell-after c st x i j h 1 (omega arith)))
-amount-row Low M n r c st x i j h = sym (ap₂ smoothing (cell-before c st x i j h 1 (omega arith)) (cell-here c st x i j h))
+amount-row High M n r c st top x i j h = sym (ap₂ between (cell-here c st x i j h) (cell-after c st x i j h 1 (omega arith)))
+amount-row Low M n r c st top x i j h = rw (update-row M (n + i) (lane c x j) (omega arith)) (sym (ap₂ smoothing (cell-before c st x i j h 1 (omega arith)) (cell-here c st x i j h)))
 
 -- ---- rows of M that a run takes are in a buffer that has room for M rows
 pub rows-fit : (M c q r : ℕ) (l : List ℤ) → q + r ≤ M → M * c ≤ length l → q * c + r * c ≤ length l
@@ -83,9 +89,9 @@ reach-one TT = omega arith
 reach-one High = omega arith
 reach-one Low = omega arith
 
-module _ (s : Step) (M n r c : ℕ) (t x : List ℤ) (p : Taps) (e : p ≡ tapsOf s M c n) (st : Straight s M n r) where
-  pub run-room : 0 < r → n + r ≤ M → Strips M c t x → Room p (r * c) t x
-  run-room some top strips = rw e (record {
+module _ (s : Step) (M n r c : ℕ) (t x : List ℤ) (p : Taps) (e : p ≡ tapsOf s M c n) (st : Straight s M n r) (top : n + r ≤ M) where
+  pub run-room : 0 < r → Strips M c t x → Room p (r * c) t x
+  run-room some strips = rw e (record {
     target = rows-fit M c n r t top (strips .evens);
     here = rows-fit M c n r x top (strips .odds);
     before2 = rows-fit M c _ r x (before-rows st some top (stepReach s) (omega arith)) (strips .odds);
@@ -95,7 +101,7 @@ module _ (s : Step) (M n r c : ℕ) (t x : List ℤ) (p : Taps) (e : p ≡ tapsO
   })
 
   moved-row : (add : Bool) (i j : ℕ) → i < r → movedAt s add t x p (i * c + j) ≡ movedRow s add M c t x (n + i) j
-  moved-row add i j h = rw e (ap₂ (moved add) (sym (cell-here c st t i j h)) (amount-row s M n r c st x i j h))
+  moved-row add i j h = rw e (ap₂ (moved add) (sym (cell-here c st t i j h)) (amount-row s M n r c st top x i j h))
 
   pub run-stays : (add : Bool) → Fit s add M c n (n + r) t x → Stays s add t x p (r * c)
   run-stays add f = record {

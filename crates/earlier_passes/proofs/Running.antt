@@ -19,8 +19,8 @@ use Rattle.earlier_passes.specs.Strip.{Strips}
 use Rattle.earlier_passes.specs.Passes.{lineTransform, Takes, Area}
 
 pub line-local : (undo : Bool) (k : Kernel) → Local (lineTransform undo k)
-line-local false k = λ w X Y even a. forward-local k w X Y even a
-line-local true k = λ w X Y even a. back-local k w X Y even a
+line-local false k = forward-local k
+line-local true k = back-local k
 
 takes-agree : (undo : Bool) (w : ℕ) (X Y : Line ℤ) → w % 2 ≡ 0 → Agree w X Y → Takes undo w X → Takes undo w Y
 takes-agree false w X Y even a t = record { takes = λ i h. rw (← a i h) (t .takes i h) }

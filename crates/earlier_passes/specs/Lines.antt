@@ -32,16 +32,16 @@ pub record Coefficients (n : ℕ) (l h : List ℤ) : Type 0 where
   pub highs : Small (2 ^ 24) n h
 
 pub record Forward (k : Kernel) (M c : ℕ) (e o e′ o′ : List ℤ) : Type 0 where
-  pub lows : Rows (λ n j. low k M (lineNumbers c e o j) n) c 0 M e e′
-  pub highs : Rows (λ n j. high k M (lineNumbers c e o j) n) c 0 M o o′
+  pub lows : Rows (λ n j. low k M M (lineNumbers c e o j) n) c 0 M e e′
+  pub highs : Rows (λ n j. high k M M (lineNumbers c e o j) n) c 0 M o o′
 
 pub record Back (k : Kernel) (M c : ℕ) (l h l′ h′ : List ℤ) : Type 0 where
-  pub evens : Rows (λ n j. undoneEvens k M (lane c l j) (lane c h j) n) c 0 M l l′
-  pub odds : Rows (λ n j. undoneOdds k M (lane c l j) (lane c h j) n) c 0 M h h′
+  pub evens : Rows (λ n j. undoneEvens k M M (lane c l j) (lane c h j) n) c 0 M l l′
+  pub odds : Rows (λ n j. undoneOdds k M M (lane c l j) (lane c h j) n) c 0 M h h′
 
 pub record Predicted (s : Step) (M c : ℕ) (e o e′ o′ : List ℤ) : Type 0 where
-  pub lows : Rows (λ n j. means (lineNumbers c e o j) n) c 0 M e e′
-  pub highs : Rows (λ n j. differences (lineNumbers c e o j) n -ℤ amount s M (means (lineNumbers c e o j)) n) c 0 M o o′
+  pub lows : Rows (λ n j. means M (lineNumbers c e o j) n) c 0 M e e′
+  pub highs : Rows (λ n j. differences (lineNumbers c e o j) n -ℤ amount s M (means M (lineNumbers c e o j)) n) c 0 M o o′
 
 pub record Unpredicted (s : Step) (M c : ℕ) (l h l′ h′ : List ℤ) : Type 0 where
   pub evens : Rows (λ n j. firstOf (lane c l j n) (lane c h j n +ℤ amount s M (lane c l j) n)) c 0 M l l′

@@ -14,14 +14,13 @@ use Rattle.kernel.specs.Kernels.{theKernel}
 use Rattle.line.proofs.Lists.{listed-cell}
 use Rattle.grid.specs.Picture.{Picture, AgreeOn}
 use Rattle.grid.proofs.Passes.{cell, cell-of}
-use Rattle.grid.proofs.Levels.{halves-of}
 use Rattle.plane.specs.Plane.{transformed, maskOf}
 use Rattle.plane.proofs.Inverse.{undo-transform}
 use Rattle.bitplane.specs.Reader.{Answer}
 use Rattle.refusal.specs.Numbers.{accepted}
-use Rattle.refusal.specs.Tests.{badKernel, badLevels, badDepth, badSizeAt, badLength, badSample}
+use Rattle.refusal.specs.Tests.{badKernel, badLevels, badDepth, badSize, badLength, badSample}
 use Rattle.refusal.proofs.Ordered.{passes-test}
-use Rattle.refusal.proofs.Passed.{Sides, multiples, samples}
+use Rattle.refusal.proofs.Passed.{Sides, sides, samples}
 use Rattle.wavelet.specs.Wavelet.{samplesOf, coefficientsOf, coefficient, transformTests}
 use Rattle.samples.specs.Samples.{inRange}
 use Rattle.header.specs.Fields.{Shot}
@@ -45,26 +44,24 @@ unfolding inRange
 in-range D a h = omega arith
 
 -- ---- an accepted picture
-record Pictured (J D W H : ℕ) (l : List ℕ) : Type 0 where
+record Pictured (D W H : ℕ) (l : List ℕ) : Type 0 where
   sides : Sides W H
-  levels : (W % 2 ^ J ≡ 0) × (H % 2 ^ J ≡ 0)
   full : length l ≡ W * H
   each : (i : ℕ) → i < length l → getD l i 0 ≤ 2 ^ D - 1
 
-pictured : (k J D W H : ℕ) (l : List ℕ) (n : ℕ) → accepted (transformTests k J D W H l n) ≡ true → Pictured J D W H l
+pictured : (k J D W H : ℕ) (l : List ℕ) (n : ℕ) → accepted (transformTests k J D W H l n) ≡ true → Pictured D W H l
 pictured k J D W H l n ok =
     let a = passes-test (badKernel k) 0 _ ok in
     let b = passes-test (badLevels J) 1 _ (a .1) in
     let c = passes-test (badDepth D) 2 _ (b .1) in
-    let d = passes-test (badSizeAt J W H) 3 _ (c .1) in
+    let d = passes-test (badSize W H) 3 _ (c .1) in
     let e = passes-test (badLength W H (length l)) 4 _ (d .1) in
     let f = passes-test (badLength W H n) 4 _ (e .1) in
     let g = passes-test (badSample D l) 5 _ (f .1) in
-    let m = multiples J W H (d .0) in
-    record { sides = m .0; levels = (m .1, m .2); full = eqb-true (length l) (W * H) (not-false _ (e .0)); each = samples D l (g .0) }
+    record { sides = sides W H (d .0); full = eqb-true (length l) (W * H) (not-false _ (e .0)); each = samples D l (g .0) }
 
 -- ---- its plane undone
-module _ (k J D W H : ℕ) (l : List ℕ) (p : Pictured J D W H l) where
+module _ (k J D W H : ℕ) (l : List ℕ) (p : Pictured D W H l) where
   plane-same : AgreeOn W H (maskOf (theKernel k) J W H (λ y x. true)) (coefficientsOf W (planeFor k J W H l)) (transformed (theKernel k) J W H (samplesOf W l))
   plane-same y x a b t =
       cell (pos 0) W (planeFor k J W H l) y x b ∙ listed-cell (W * H) (coefficient k J W H l) (pos 0) (y * W + x) (place-in W H y x a b) ∙ (rw (digits-div y b, digits-mod y b))
@@ -72,11 +69,10 @@ module _ (k J D W H : ℕ) (l : List ℕ) (p : Pictured J D W H l) where
   undone-back : (rs : List ℕ) (i : ℕ) → i < W * H → undoneOf (shotFor k J D W H rs (planeFor k J W H l)) (planeFor k J W H l) i ≡ pos (getD l i 0)
   undone-back rs i h =
       let K = theKernel k in
-      let halves = halves-of J W H (p .levels .0) (p .levels .1) in
       let some = p .sides .width .0 in
-      undone-agrees K J W H (λ y x. true) (coefficientsOf W (planeFor k J W H l)) (transformed K J W H (samplesOf W l)) halves plane-same
+      undone-agrees K J W H (λ y x. true) (coefficientsOf W (planeFor k J W H l)) (transformed K J W H (samplesOf W l)) plane-same
       (i / W) (i % W) (row-in W H i some h) (mod-lt i some) refl
-      ∙ ap (λ (R : Picture ℤ). R (i / W) (i % W)) (undo-transform K J W H (samplesOf W l) halves) ∙ ap pos (sym (cell-of 0 W l H i (omega (arith, mul-comm W H))))
+      ∙ ap (λ (R : Picture ℤ). R (i / W) (i % W)) (undo-transform K J W H (samplesOf W l)) ∙ ap pos (sym (cell-of 0 W l H i (omega (arith, mul-comm W H))))
 
 module _ (k J D W H : ℕ) (rs samples : List ℕ) (p m n : ℕ) (ok : accepted (transformTests k J D W H samples p) ≡ true)
     (written : accepted (writeTests (shotFor k J D W H rs (planeFor k J W H samples)) (planeFor k J W H samples) m n) ≡ true) where

@@ -16,10 +16,8 @@ use Rattle.kernel.specs.declared.Kernel.{Kernel}
 use Rattle.kernel.specs.Kernels.{theKernel}
 use Rattle.line.specs.Mask.{byteOf}
 use Rattle.line.proofs.Lists.{listed-cell}
-use Rattle.grid.specs.Buffer.{Halves}
 use Rattle.grid.specs.Picture.{Picture, AgreeOn}
 use Rattle.grid.proofs.Passes.{cell}
-use Rattle.grid.proofs.Levels.{halves-of}
 use Rattle.plane.specs.Plane.{undone, maskOf}
 use Rattle.plane.proofs.Levels.{level-agrees, region-level, undone-level}
 use Rattle.wavelet.specs.Wavelet.{coefficientsOf, undoneNumber}
@@ -41,11 +39,11 @@ module _ (W H : ℕ) where
   place-in y x p q = omega (arith, digits-lt p q, mul-comm W H)
 
 -- planes that agree where the mask of B marks: their undone numbers agree where B does
-pub undone-agrees : (k : Kernel) (J W H : ℕ) (B : Picture Bool) (P P′ : Picture ℤ) → Halves J W H → AgreeOn W H (maskOf k J W H B) P P′
+pub undone-agrees : (k : Kernel) (J W H : ℕ) (B : Picture Bool) (P P′ : Picture ℤ) → AgreeOn W H (maskOf k J W H B) P P′
     → AgreeOn W H B (undone k J W H P) (undone k J W H P′)
-undone-agrees k J W H B P P′ halves a y x p q t =
+undone-agrees k J W H B P P′ a y x p q t =
     ap (λ (R : Picture ℤ). R y x) (sym (undone-level k J W H B P))
-    ∙ level-agrees k J W H B P P′ halves a 0 (omega arith) y x p q (ap (λ (R : Picture Bool). R y x) (region-level k J W H B P) ∙ t)
+    ∙ level-agrees k J W H B P P′ a 0 (omega arith) y x p q (ap (λ (R : Picture Bool). R y x) (region-level k J W H B P) ∙ t)
     ∙ ap (λ (R : Picture ℤ). R y x) (undone-level k J W H B P′)
 
 module _ (s : Shot) (set : Setting (s .kernel) (s .levels) (s .depth) (s .width) (s .height)) where
@@ -73,5 +71,5 @@ module _ (s : Shot) (set : Setting (s .kernel) (s .levels) (s .depth) (s .width)
 
     pub region-same : (i : ℕ) → i < area s → inRegionAt s i ≡ true → undoneOf s p i ≡ undoneOf s p′ i
     region-same i h t = let J = s .levels in
-        undone-agrees k J W H B (coefficientsOf W p) (coefficientsOf W p′) (halves-of J W H (set .multiples .0) (set .multiples .1)) agree
+        undone-agrees k J W H B (coefficientsOf W p) (coefficientsOf W p′) agree
         (i / W) (i % W) (row-in W H i (set .sides .width .0) h) (mod-lt i (set .sides .width .0)) t

@@ -1,10 +1,10 @@
 -- The demands that are theorems, each in one piece: a record with a field for each part (docs/FORMAT.md, "What arrives exactly").
--- The hypotheses are that calls are accepted, that sizes are, and of a stream that its numbers are bytes.
+-- The hypotheses are that calls are accepted, and of a stream that its numbers are bytes.
 --
 --   Demand2 == undoing the transform gives back the picture, transforming the undone numbers gives back the plane, and reading a whole stream returns the plane
 --              that was written:
 --     picture-back, plane-back
---              for every kernel, level count and accepted size, and all whole numbers
+--              for every kernel, level count and size, and all whole numbers
 --     stream-back
 --              for every accepted call of the writer, and buffers of the plane's size
 --
@@ -17,7 +17,7 @@
 --     taken             the cutter accepts c for every buffer that has room; by its contract the buffer then begins with this cut
 --
 --   Demand3 == the region arrives exactly:
---     levels   any region of an accepted size, and two planes of whole numbers that agree on its mask: at each level, from 0 to the deepest, the count of
+--     levels   any region of any size, and two planes of whole numbers that agree on its mask: at each level, from 0 to the deepest, the count of
 --              places that this level's mask marks and where their pictures at that level differ is zero
 --     region   at level 0 the mask is the region, and the picture the undone numbers
 --     cuts     a stream of bytes that the reader accepts with its marked part whole, cut to whichever length from its region mark to its own, is accepted
@@ -26,13 +26,13 @@
 --     whole, captured
 --              where the stream was written from the plane of an accepted picture, with the setting under which it was transformed, it shows the picture,
 --              and each cut shows its region as captured
---     spared   with kernel S, for every region of an accepted size and every marked coefficient that is accepted there is another accepted value which, put
+--     spared   with kernel S, for every region of any size and every marked coefficient that is accepted there is another accepted value which, put
 --              in that one's place alone, alters a region sample, taken before it is brought into range
 --
 -- Assumes nothing: these are definitions. `proofs/Demands.antt` proves Demand2 and Demand3.
 use mathlib.Core.Path.{_≡_}
 use mathlib.Core.Logic.{_≢_}
-use mathlib.Core.Bool.{Bool, true, false}
+use mathlib.Core.Bool.{Bool, true}
 use mathlib.Core.List.{List}
 use Prim.Native.Nat.{ℕ, _*_, _-_, _^_, _<_, _≤_}
 use lib.IntN.{ℤ, pos, _+ℤ_}
@@ -44,7 +44,6 @@ use Rattle.grid.specs.Picture.{Picture, side, AgreeOn}
 use Rattle.plane.specs.Plane.{transformed, undone, maskOf, levelMask, levelPicture, changed, Altered}
 use Rattle.plane.specs.Counts.{places, differs}
 use Rattle.refusal.specs.Numbers.{first, accepted}
-use Rattle.refusal.specs.Tests.{badSizeAt}
 use Rattle.wavelet.specs.Wavelet.{transformTests}
 use Rattle.header.specs.Fields.{shotOf}
 use Rattle.shot.specs.Shots.{shotMask}
@@ -55,8 +54,8 @@ use Rattle.codestream.specs.Cutting.{cutTo, cutTests, Bytes}
 use Rattle.exactness.specs.Shown.{undoneAt, shownAt, inRegionAt, planeFor}
 
 pub record Demand2 : Type 0 where
-  pub picture-back : (k : Kernel) (J W H : ℕ) (P : Picture ℤ) → badSizeAt J W H ≡ false → undone k J W H (transformed k J W H P) ≡ P
-  pub plane-back : (k : Kernel) (J W H : ℕ) (P : Picture ℤ) → badSizeAt J W H ≡ false → transformed k J W H (undone k J W H P) ≡ P
+  pub picture-back : (k : Kernel) (J W H : ℕ) (P : Picture ℤ) → undone k J W H (transformed k J W H P) ≡ P
+  pub plane-back : (k : Kernel) (J W H : ℕ) (P : Picture ℤ) → transformed k J W H (undone k J W H P) ≡ P
   pub stream-back : (k J D W H : ℕ) (rs : List ℕ) (plane : List ℤ) (m n : ℕ) → let s = shotFor k J D W H rs plane in
       accepted (writeTests s plane m n) ≡ true → (p : List ℤ) (b : List ℕ) → length p ≡ area s → length b ≡ area s → ReadBack (stream s plane) s plane p b
 
@@ -73,7 +72,7 @@ pub record Exact (l : List ℕ) (n m c : ℕ) : Type 0 where
   pub taken : (o : ℕ) → c ≤ o → first (cutTests l n m c o) ≡ 0
 
 pub record Demand3 : Type 0 where
-  pub levels : (k : Kernel) (J W H : ℕ) (B : Picture Bool) (P P′ : Picture ℤ) → badSizeAt J W H ≡ false → AgreeOn W H (maskOf k J W H B) P P′ → (j : ℕ) → j ≤ J
+  pub levels : (k : Kernel) (J W H : ℕ) (B : Picture Bool) (P P′ : Picture ℤ) → AgreeOn W H (maskOf k J W H B) P P′ → (j : ℕ) → j ≤ J
       → places (side j W) (side j H) (differs (levelMask k j W H B) (levelPicture k J j W H P) (levelPicture k J j W H P′)) ≡ 0
   pub region : (k : Kernel) (J W H : ℕ) (B : Picture Bool) (P : Picture ℤ) → (levelMask k 0 W H B ≡ B) × (levelPicture k J 0 W H P ≡ undone k J W H P)
   pub cuts : (l : List ℕ) (n m c : ℕ) → Bytes l → accepted (readTests l n m) ≡ true → answerOf l .whole ≡ true → answerOf l .regionMark ≤ c → c ≤ length l → Exact l n m c
@@ -84,5 +83,5 @@ pub record Demand3 : Type 0 where
   pub captured : (k J D W H : ℕ) (rs samples : List ℕ) (p m n : ℕ) → let plane = planeFor k J W H samples in let s = shotFor k J D W H rs plane in
       accepted (transformTests k J D W H samples p) ≡ true → accepted (writeTests s plane m n) ≡ true
       → (c : ℕ) → regionMark s plane ≤ c → c ≤ totalLength s plane → (i : ℕ) → i < W * H → inRegionAt s i ≡ true → shownAt (cutTo (stream s plane) c) i ≡ getD samples i 0
-  pub spared : (J W H : ℕ) (B : Picture Bool) (P : Picture ℤ) (v u : ℕ) → badSizeAt J W H ≡ false → v < H → u < W → maskOf S J W H B v u ≡ true → Within (2 ^ 22 - 1) (P v u)
+  pub spared : (J W H : ℕ) (B : Picture Bool) (P : Picture ℤ) (v u : ℕ) → v < H → u < W → maskOf S J W H B v u ≡ true → Within (2 ^ 22 - 1) (P v u)
       → (d : ℤ) × (P v u +ℤ d ≢ P v u) × Within (2 ^ 22 - 1) (P v u +ℤ d) × Altered W H B (undone S J W H P) (undone S J W H (changed P v u d))

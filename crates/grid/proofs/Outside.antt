@@ -2,9 +2,9 @@
 use mathlib.Core.Path.{_≡_, refl, ap, _∙_}
 use Prim.Native.Nat.{ℕ, zero, suc, _≤_}
 use native.Mathlib.Omega.{arith}
-use Rattle.line.specs.Cells.{Line}
+use Rattle.line.specs.Cells.{Line, lowSide}
 use Rattle.line.proofs.Cells.{by-lt}
-use Rattle.grid.specs.Picture.{Picture, Transform, rowPass, turned, colPass, lowSide, walk, walkBack}
+use Rattle.grid.specs.Picture.{Picture, Transform, rowPass, turned, colPass, walk, walkBack}
 use Rattle.grid.proofs.Passes.{line-past, pass-in, pass-past}
 
 module _ {A : Type 0} (T : Transform A) where

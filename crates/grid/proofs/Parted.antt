@@ -5,14 +5,14 @@
 -- Assumes nothing.
 use mathlib.Core.Path.{_≡_, refl, sym, ap, _∙_, fun-ext}
 use mathlib.Core.Bool.{Bool, true, false}
-use Prim.Native.Nat.{ℕ, _+_, _*_, _-_, _%_, _<_, _≤_}
+use Prim.Native.Nat.{ℕ, _+_, _*_, _-_, _<_, _≤_}
 use native.Mathlib.Omega.{arith}
 use lib.Dec.{ltb}
 use borrow.Author.Tests.{lt-ltb, le-ltb}
 use Rattle.line.specs.Inner.{Agree}
-use Rattle.line.specs.Cells.{Line, choose, evens, odds, behind, joined}
+use Rattle.line.specs.Cells.{Line, choose, evens, odds, behind, joined, lowSide}
 use Rattle.line.proofs.Cells.{by-lt, by-parity, joined-low, joined-high, paired-even, paired-odd}
-use Rattle.grid.specs.Picture.{Picture, Transform, onLine, rowPass, turned, colPass, lowSide}
+use Rattle.grid.specs.Picture.{Picture, Transform, onLine, rowPass, turned, colPass}
 use Rattle.grid.specs.Placed.{parted, woven, onWoven, placed}
 use Rattle.grid.proofs.Passes.{Local, line-in, line-past, pass-in, pass-past}
 use Rattle.grid.proofs.Outside.{row-below, row-right}
@@ -27,8 +27,8 @@ source-low w n h = simp (lt-ltb n (lowSide w) h)
 pub source-high : (w n : ℕ) → lowSide w ≤ n → source w n ≡ 2 * (n - lowSide w) + 1
 source-high w n h = simp (le-ltb n (lowSide w) h)
 
-pub source-lt : (w n : ℕ) → w % 2 ≡ 0 → n < w → source w n < w
-source-lt w n even h = by-lt n (lowSide w)
+pub source-lt : (w n : ℕ) → n < w → source w n < w
+source-lt w n h = by-lt n (lowSide w)
     (λ lt. rw (source-low w n lt) (omega arith))
     (λ ge. rw (source-high w n ge) (omega arith))
 
@@ -59,17 +59,17 @@ module _ {A : Type 0} (w n : ℕ) (X : Line A) where
 
 module _ {A : Type 0} where
   pub woven-local : Local {A = A} woven
-  woven-local w X Y even a = by-parity (λ x. x < w → woven w X x ≡ woven w Y x)
+  woven-local w X Y a = by-parity (λ x. x < w → woven w X x ≡ woven w Y x)
       (λ n h. woven-even w n X ∙ a n (omega arith) ∙ sym (woven-even w n Y))
       (λ n h. woven-odd w n X ∙ a (lowSide w + n) (omega arith) ∙ sym (woven-odd w n Y))
 
-  pub woven-parted : (w : ℕ) (X : Line A) → w % 2 ≡ 0 → Agree w (woven w (parted w X)) X
-  woven-parted w X even = by-parity (λ x. x < w → woven w (parted w X) x ≡ X x)
+  pub woven-parted : (w : ℕ) (X : Line A) → Agree w (woven w (parted w X)) X
+  woven-parted w X = by-parity (λ x. x < w → woven w (parted w X) x ≡ X x)
       (λ n h. woven-even w n (parted w X) ∙ parted-even w n X (omega arith))
       (λ n h. woven-odd w n (parted w X) ∙ parted-odd w n X)
 
   pub on-woven-local : (T : Transform A) → Local T → Local (onWoven T)
-  on-woven-local T local w X Y even a = local w (woven w X) (woven w Y) even (woven-local w X Y even a)
+  on-woven-local T local w X Y a = local w (woven w X) (woven w Y) (woven-local w X Y a)
 
 -- ---- passes one after the other, and passes that do the same
 module _ {A : Type 0} (T U : Transform A) (w h : ℕ) (P : Picture A) where
@@ -84,27 +84,27 @@ module _ {A : Type 0} (T U : Transform A) (w h : ℕ) (P : Picture A) where
       (λ ge. pass-past T w h y P ge ∙ sym (pass-past U w h y P ge))
 
 module _ {A : Type 0} (T U : Transform A) (local : Local T) where
-  line-compose : (w : ℕ) (X : Line A) → w % 2 ≡ 0 → onLine T w (onLine U w X) ≡ onLine (λ v Y. T v (U v Y)) w X
-  line-compose w X even = fun-ext λ x. by-lt x w
-      (λ lt. line-in T w (onLine U w X) x lt ∙ local w (onLine U w X) (U w X) even (λ i h. line-in U w X i h) x lt
+  line-compose : (w : ℕ) (X : Line A) → onLine T w (onLine U w X) ≡ onLine (λ v Y. T v (U v Y)) w X
+  line-compose w X = fun-ext λ x. by-lt x w
+      (λ lt. line-in T w (onLine U w X) x lt ∙ local w (onLine U w X) (U w X) (λ i h. line-in U w X i h) x lt
       ∙ sym (line-in (λ v Y. T v (U v Y)) w X x lt))
       (λ ge. line-past T w (onLine U w X) x ge ∙ line-past U w X x ge ∙ sym (line-past (λ v Y. T v (U v Y)) w X x ge))
 
-  pub pass-compose : (w h : ℕ) (P : Picture A) → w % 2 ≡ 0 → rowPass T w h (rowPass U w h P) ≡ rowPass (λ v X. T v (U v X)) w h P
-  pass-compose w h P even = fun-ext λ y. by-lt y h
-      (λ lt. pass-in T w h y (rowPass U w h P) lt ∙ ap (onLine T w) (pass-in U w h y P lt) ∙ line-compose w (P y) even
+  pub pass-compose : (w h : ℕ) (P : Picture A) → rowPass T w h (rowPass U w h P) ≡ rowPass (λ v X. T v (U v X)) w h P
+  pass-compose w h P = fun-ext λ y. by-lt y h
+      (λ lt. pass-in T w h y (rowPass U w h P) lt ∙ ap (onLine T w) (pass-in U w h y P lt) ∙ line-compose w (P y)
       ∙ sym (pass-in (λ v X. T v (U v X)) w h y P lt))
       (λ ge. pass-past T w h y (rowPass U w h P) ge ∙ pass-past U w h y P ge ∙ sym (pass-past (λ v X. T v (U v X)) w h y P ge))
 
 -- ---- passes over lines that are parted
 module _ {A : Type 0} (T : Transform A) (local : Local T) where
-  pub rows-on-parted : (w h : ℕ) (P : Picture A) → w % 2 ≡ 0 → rowPass (onWoven T) w h (rowPass parted w h P) ≡ rowPass T w h P
-  rows-on-parted w h P even =
-      pass-compose (onWoven T) parted (on-woven-local T local) w h P even
-      ∙ pass-same (λ v X. onWoven T v (parted v X)) T w h P (λ X. local w (woven w (parted w X)) X even (woven-parted w X even))
+  pub rows-on-parted : (w h : ℕ) (P : Picture A) → rowPass (onWoven T) w h (rowPass parted w h P) ≡ rowPass T w h P
+  rows-on-parted w h P =
+      pass-compose (onWoven T) parted (on-woven-local T local) w h P
+      ∙ pass-same (λ v X. onWoven T v (parted v X)) T w h P (λ X. local w (woven w (parted w X)) X (woven-parted w X))
 
-  pub cols-on-parted : (w h : ℕ) (P : Picture A) → h % 2 ≡ 0 → colPass (onWoven T) w h (colPass parted w h P) ≡ colPass T w h P
-  cols-on-parted w h P even = ap turned (rows-on-parted h w (turned P) even)
+  pub cols-on-parted : (w h : ℕ) (P : Picture A) → colPass (onWoven T) w h (colPass parted w h P) ≡ colPass T w h P
+  cols-on-parted w h P = ap turned (rows-on-parted h w (turned P))
 
 -- ---- the cells of passes
 module _ {A : Type 0} (T : Transform A) (w h y x : ℕ) (P : Picture A) where
@@ -119,12 +119,12 @@ module _ {A : Type 0} (w h y x : ℕ) (P : Picture A) where
   cols-parted-cell i j = row-cell parted h w x y (turned P) j i ∙ parted-source h y (λ v. P v x)
 
 -- parting columns only exchanges rows, so it goes with a row pass
-module _ {A : Type 0} (T : Transform A) (local : Local T) (w h : ℕ) (P : Picture A) (even-w : w % 2 ≡ 0) (even-h : h % 2 ≡ 0) where
+module _ {A : Type 0} (T : Transform A) (local : Local T) (w h : ℕ) (P : Picture A) where
   exchanged : (y x : ℕ) → y < h → x < w → rowPass T w h (colPass parted w h P) y x ≡ colPass parted w h (rowPass T w h P) y x
   exchanged y x i j =
       row-cell T w h y x (colPass parted w h P) i j
-      ∙ local w (colPass parted w h P y) (P (source h y)) even-w (λ v k. cols-parted-cell w h y v P i k) x j
-      ∙ sym (row-cell T w h (source h y) x P (source-lt h y even-h i) j)
+      ∙ local w (colPass parted w h P y) (P (source h y)) (λ v k. cols-parted-cell w h y v P i k) x j
+      ∙ sym (row-cell T w h (source h y) x P (source-lt h y i) j)
       ∙ sym (cols-parted-cell w h y x (rowPass T w h P) i j)
 
   pub rows-cols-parted : rowPass T w h (colPass parted w h P) ≡ colPass parted w h (rowPass T w h P)
@@ -136,9 +136,9 @@ module _ {A : Type 0} (T : Transform A) (local : Local T) (w h : ℕ) (P : Pictu
       ∙ sym (row-below T w h y x P ge) ∙ sym (row-right parted h w x y (turned (rowPass T w h P)) ge))
 
 -- ---- placed pictures
-module _ {A : Type 0} (w h : ℕ) (P : Picture A) (even-w : w % 2 ≡ 0) (even-h : h % 2 ≡ 0) where
+module _ {A : Type 0} (w h : ℕ) (P : Picture A) where
   pub placed-cell : (y x : ℕ) → y < h → x < w → placed w h P y x ≡ P (source h y) (source w x)
-  placed-cell y x i j = cols-parted-cell w h y x (rowPass parted w h P) i j ∙ rows-parted-cell w h (source h y) x P (source-lt h y even-h i) j
+  placed-cell y x i j = cols-parted-cell w h y x (rowPass parted w h P) i j ∙ rows-parted-cell w h (source h y) x P (source-lt h y i) j
 
   pub placed-below : (y x : ℕ) → h ≤ y → placed w h P y x ≡ P y x
   placed-below y x ge = row-right parted h w x y (turned (rowPass parted w h P)) ge ∙ row-below parted w h y x P ge
@@ -150,6 +150,6 @@ module _ {A : Type 0} (w h : ℕ) (P : Picture A) (even-w : w % 2 ≡ 0) (even-h
   pub level-on-placed : (T : Transform A) → Local T → colPass (onWoven T) w h (rowPass (onWoven T) w h (placed w h P)) ≡ colPass T w h (rowPass T w h P)
   level-on-placed T local =
       ap (colPass (onWoven T) w h)
-      (rows-cols-parted (onWoven T) (on-woven-local T local) w h (rowPass parted w h P) even-w even-h
-      ∙ ap (colPass parted w h) (rows-on-parted T local w h P even-w))
-      ∙ cols-on-parted T local w h (rowPass T w h P) even-h
+      (rows-cols-parted (onWoven T) (on-woven-local T local) w h (rowPass parted w h P)
+      ∙ ap (colPass parted w h) (rows-on-parted T local w h P))
+      ∙ cols-on-parted T local w h (rowPass T w h P)

@@ -1,6 +1,6 @@
 -- The laws of passes: a pass over some lines and then more, and a buffer in which lines are transformed.
 --
---   Local T == of a line of w cells, w even, T reads those cells alone
+--   Local T == of a line of w cells, T reads those cells alone
 --
 -- Assumes nothing.
 use mathlib.Core.Path.{_≡_, sym, ap, _∙_, fun-ext}
@@ -18,7 +18,7 @@ use Rattle.grid.specs.Picture.{Picture, Transform, onLine, rowPass, turn
 use Rattle.grid.specs.Buffer.{strided, Lines}
 
 abbrev pub Local : {A : Type 0} → Transform A → Type 0
-Local {A} T = (w : ℕ) (X Y : Line A) → w % 2 ≡ 0 → Agree w X Y → Agree w (T w X) (T w Y)
+Local {A} T = (w : ℕ) (X Y : Line A) → Agree w X Y → Agree w (T w X) (T w Y)
 
 -- ---- a line of w cells in a longer one
 module _ {A : Type 0} (T : Transform A) (w : ℕ) (X : Line A) (x : ℕ) where
@@ -86,9 +86,9 @@ row-same o W l l′ v same = fun-ext λ x. by-lt x W
 
 module _ {A : Type 0} (o : A) (W : ℕ) (T : Transform A) (local : Local T) (l l′ : List A) where
   -- row y transformed in its first w cells
-  pub row-more : (w y : ℕ) (Q : Picture A) → w % 2 ≡ 0 → w ≤ W → Lines T o (y * W) 1 w 1 l l′
+  pub row-more : (w y : ℕ) (Q : Picture A) → w ≤ W → Lines T o (y * W) 1 w 1 l l′
       → picture o W l ≡ rowPass T w y Q → picture o W l′ ≡ rowPass T w (y + 1) Q
-  row-more w y Q even fits p e = pass-more T w y 1 Q (picture o W l) (picture o W l′) e
+  row-more w y Q fits p e = pass-more T w y 1 Q (picture o W l) (picture o W l′) e
       (λ v lt. other v (λ q. omega arith))
       (λ v ge. other v (λ q. omega arith))
       (λ v ge lt. let q : v ≡ y = omega arith in rw q (fun-ext here))
@@ -99,7 +99,7 @@ module _ {A : Type 0} (o : A) (W : ℕ) (T : Transform A) (local : Local T) (l l
       here : (x : ℕ) → picture o W l′ y x ≡ onLine T w (picture o W l y) x
       here x = by-lt x w
           (λ lt. cell o W l′ y x (omega arith) ∙ ap (λ n. getD l′ n o) (omega arith) ∙ p .on x 0 lt (omega arith)
-          ∙ local w (strided o l (y * W + 0) 1) (picture o W l y) even (λ i h. ap (λ n. getD l n o) (omega arith) ∙ sym (cell o W l y i (omega arith))) x lt
+          ∙ local w (strided o l (y * W + 0) 1) (picture o W l y) (λ i h. ap (λ n. getD l n o) (omega arith) ∙ sym (cell o W l y i (omega arith))) x lt
           ∙ sym (line-in T w (picture o W l y) x lt))
           (λ ge. by-lt x W
           (λ lt. cell o W l′ y x lt ∙ p .off (y * W + x) (λ i j h k q. omega arith) ∙ sym (cell o W l y x lt))
@@ -107,9 +107,9 @@ module _ {A : Type 0} (o : A) (W : ℕ) (T : Transform A) (local : Local T) (l l
           ∙ sym (line-past T w (picture o W l y) x ge))
 
   -- the columns x up to x + c transformed in their first h cells
-  pub col-more : (h x c : ℕ) (Q : Picture A) → h % 2 ≡ 0 → x + c ≤ W → Lines T o x W h c l l′
+  pub col-more : (h x c : ℕ) (Q : Picture A) → x + c ≤ W → Lines T o x W h c l l′
       → turned (picture o W l) ≡ rowPass T h x Q → turned (picture o W l′) ≡ rowPass T h (x + c) Q
-  col-more h x c Q even fits p e = pass-more T h x c Q (turned (picture o W l)) (turned (picture o W l′)) e
+  col-more h x c Q fits p e = pass-more T h x c Q (turned (picture o W l)) (turned (picture o W l′)) e
       (λ v lt. other v (λ j k q. omega arith))
       (λ v ge. other v (λ j k q. omega arith))
       (λ v ge lt. fun-ext (here v ge lt))
@@ -124,7 +124,7 @@ module _ {A : Type 0} (o : A) (W : ℕ) (T : Transform A) (local : Local T) (l l
           let j = v - x in let q : x + j ≡ v = omega arith in
           by-lt y h
           (λ k. cell o W l′ y v (omega arith) ∙ ap (λ n. getD l′ n o) (omega arith) ∙ p .on y j k (omega arith)
-          ∙ local h (strided o l (x + j) W) (λ i. picture o W l i v) even (λ i r. ap (λ n. getD l n o) (omega arith) ∙ sym (cell o W l i v (omega arith))) y k
+          ∙ local h (strided o l (x + j) W) (λ i. picture o W l i v) (λ i r. ap (λ n. getD l n o) (omega arith) ∙ sym (cell o W l i v (omega arith))) y k
           ∙ sym (line-in T h (λ i. picture o W l i v) y k))
           (λ k. cell o W l′ y v (omega arith)
           ∙ p .off (y * W + v) (λ i d r s t. omega (arith, row-of W y i v (x + d) (omega arith) (omega arith) (omega arith)))

@@ -6,7 +6,7 @@
 -- Assumes nothing.
 use mathlib.Core.Path.{_≡_, refl, _∙_}
 use mathlib.Core.List.{List}
-use Prim.Native.Nat.{ℕ, _+_, _*_, _%_, _<_, _≤_}
+use Prim.Native.Nat.{ℕ, _+_, _*_, _<_, _≤_}
 use native.Mathlib.Omega.{arith}
 use lib.Arith.{digits-lt}
 use lib.ListN.{length}
@@ -35,7 +35,7 @@ module _ {A : Type 0} (o : A) (T : Transform A) (W w h : ℕ) (l a b : List A) w
   pub cols-none : ColsPassed o T W w h 0 l a b l a b
   cols-none = record { count = omega arith; same-l = refl; same-a = refl; same-b = refl; passed = pass-none T h (turned (picture o W l)) }
 
-module _ {A : Type 0} {o : A} {T : Transform A} {W w h y : ℕ} {l₀ a₀ b₀ l a b : List A} (local : Local T) (even : w % 2 ≡ 0) (wide : w ≤ W) (p : RowsPassed o T W w h y l₀ a₀ b₀ l a b) where
+module _ {A : Type 0} {o : A} {T : Transform A} {W w h y : ℕ} {l₀ a₀ b₀ l a b : List A} (local : Local T) (wide : w ≤ W) (p : RowsPassed o T W w h y l₀ a₀ b₀ l a b) where
   pub rows-more : {l′ a′ b′ : List A} → y < h → Lines T o (y * W) 1 w 1 l l′ → length a′ ≡ length a → length b′ ≡ length b
       → RowsPassed o T W w h (y + 1) l₀ a₀ b₀ l′ a′ b′
   rows-more {l′} lt f q r = record {
@@ -43,10 +43,10 @@ module _ {A : Type 0} {o : A} {T : Transform A} {W w h y : ℕ} {l₀ a₀ b₀ 
     same-l = f .size ∙ p .same-l;
     same-a = q ∙ p .same-a;
     same-b = r ∙ p .same-b;
-    passed = row-more o W T local l l′ w y (picture o W l₀) even wide f (p .passed);
+    passed = row-more o W T local l l′ w y (picture o W l₀) wide f (p .passed);
   }
 
-module _ {A : Type 0} {o : A} {T : Transform A} {W w h x : ℕ} {l₀ a₀ b₀ l a b : List A} (local : Local T) (even : h % 2 ≡ 0) (wide : w ≤ W) (p : ColsPassed o T W w h x l₀ a₀ b₀ l a b) where
+module _ {A : Type 0} {o : A} {T : Transform A} {W w h x : ℕ} {l₀ a₀ b₀ l a b : List A} (local : Local T) (wide : w ≤ W) (p : ColsPassed o T W w h x l₀ a₀ b₀ l a b) where
   pub cols-more : {l′ a′ b′ : List A} (c : ℕ) → x + c ≤ w → Lines T o x W h c l l′ → length a′ ≡ length a → length b′ ≡ length b
       → ColsPassed o T W w h (x + c) l₀ a₀ b₀ l′ a′ b′
   cols-more {l′} c le f q r = record {
@@ -54,7 +54,7 @@ module _ {A : Type 0} {o : A} {T : Transform A} {W w h x : ℕ} {l₀ a₀ b₀ 
     same-l = f .size ∙ p .same-l;
     same-a = q ∙ p .same-a;
     same-b = r ∙ p .same-b;
-    passed = col-more o W T local l l′ h x c (turned (picture o W l₀)) even (omega arith) f (p .passed);
+    passed = col-more o W T local l l′ h x c (turned (picture o W l₀)) (omega arith) f (p .passed);
   }
 
 -- ---- a row, and a strip of columns, of an area are in its buffer

@@ -1,19 +1,18 @@
--- Strips of lines in a buffer, and areas that can be halved: what only inner contracts and proofs cite.
+-- Strips of lines in a buffer: what only inner contracts and proofs cite.
 --
 --   strided o l s t        == the cells of l from place s on, t apart, as a line
 --   InBuffer l s t m c     == places s + n · t + j, n below m and j below c, are in l
 --   Taken o l s t m c x x′ == x′ is the strip x with the cells of l at those places, that of n and j at n · c + j
 --   Put o x s t m c l l′   == l′ is l with the cells of the strip x at those places
 --   Lines T o s t w c l l′ == l′ is l with each of the c lines of w cells that begin at s, s + 1, .., t apart, transformed by T
---   Halves n w h           == w and h can be halved n times
 --
 -- Assumes nothing: these are definitions.
 use mathlib.Core.Path.{_≡_}
 use mathlib.Core.List.{List}
-use Prim.Native.Nat.{ℕ, _+_, _*_, _<_, _≤_, zero, suc, _%_}
+use Prim.Native.Nat.{ℕ, _+_, _*_, _<_, _≤_}
 use lib.ListN.{length, getD}
 use Rattle.line.specs.Cells.{Line}
-use Rattle.grid.specs.Picture.{Transform, lowSide}
+use Rattle.grid.specs.Picture.{Transform}
 
 abbrev pub strided : {A : Type 0} → A → List A → ℕ → ℕ → Line A
 strided o l s t i = getD l (s + i * t) o
@@ -38,7 +37,3 @@ pub record Lines {A : Type 0} (T : Transform A) (o : A) (s t w c : ℕ) (l l′ 
   pub size : length l′ ≡ length l
   pub on : (n j : ℕ) → n < w → j < c → getD l′ (s + n * t + j) o ≡ T w (strided o l (s + j) t) n
   pub off : (i : ℕ) → ((n j : ℕ) → n < w → j < c → i ≡ s + n * t + j → ⊥) → getD l′ i o ≡ getD l i o
-
-unfoldable pub Halves : ℕ → ℕ → ℕ → Type 0
-Halves zero w h = Unit
-Halves (suc n) w h = (w % 2 ≡ 0) × (h % 2 ≡ 0) × Halves n (lowSide w) (lowSide h)

@@ -6,8 +6,7 @@
 --   rowPass T w h P    == P with the first w cells of its first h rows transformed
 --   turned P           == P with rows and columns exchanged
 --   colPass T w h P    == P with the first h cells of its first w columns transformed
---   lowSide w          == the low part of a side w of an area
---   walk T n w h P     == n levels on the upper left area of w by h: rows, columns, and the next level on the low quarter
+--   walk T n w h P     == n levels on the upper left area of w by h: rows, columns, and the next level on the low part
 --   walkBack T n w h P == the way back: from the deepest level, columns and then rows
 --   side n w           == the side of the area that n levels leave of a side w
 --   AgreeOn W H B P Q  == P and Q, of W by H cells, are equal wherever B marks
@@ -17,10 +16,10 @@
 use mathlib.Core.Path.{_≡_}
 use mathlib.Core.Bool.{Bool, true}
 use mathlib.Core.List.{List}
-use Prim.Native.Nat.{ℕ, zero, suc, _/_, _<_, _+_, _*_}
+use Prim.Native.Nat.{ℕ, zero, suc, _<_, _+_, _*_}
 use lib.Dec.{ltb}
 use lib.ListN.{getD}
-use Rattle.line.specs.Cells.{Line, choose}
+use Rattle.line.specs.Cells.{Line, choose, lowSide}
 
 abbrev pub Picture : Type 0 → Type 0
 Picture A = ℕ → Line A
@@ -39,9 +38,6 @@ turned P y x = P x y
 
 abbrev pub colPass : {A : Type 0} → Transform A → ℕ → ℕ → Picture A → Picture A
 colPass T w h P = turned (rowPass T h w (turned P))
-
-abbrev pub lowSide : ℕ → ℕ
-lowSide w = w / 2
 
 unfoldable pub walk : {A : Type 0} → Transform A → ℕ → ℕ → ℕ → Picture A → Picture A
 walk T zero w h P = P

@@ -7,8 +7,8 @@
 --
 -- Assumes nothing: these are definitions.
 use Prim.Native.Nat.{ℕ}
-use Rattle.line.specs.Cells.{evens, odds, behind, joined, paired}
-use Rattle.grid.specs.Picture.{Picture, Transform, rowPass, colPass, lowSide}
+use Rattle.line.specs.Cells.{evens, odds, behind, joined, paired, lowSide}
+use Rattle.grid.specs.Picture.{Picture, Transform, rowPass, colPass}
 
 unfoldable pub parted : {A : Type 0} → Transform A
 parted w X = joined (lowSide w) (evens X) (odds X)

@@ -1,7 +1,7 @@
 -- The laws of parts: the places of their rows, rows that are written, and what stays. Assumes nothing.
 use mathlib.Core.Path.{_≡_, refl, sym, ap, _∙_}
 use mathlib.Core.List.{List}
-use Prim.Native.Nat.{ℕ, zero, suc, _+_, _*_, _-_, _/_, _%_, _<_, _≤_}
+use Prim.Native.Nat.{ℕ, zero, suc, _+_, _*_, _-_, _/_, _%_, _<_, _≤_, min}
 use native.Mathlib.Nat.{add-mul, one-mul, div-add-mod', mod-lt, div-lt-iff-lt-mul}
 use native.Mathlib.Omega.{arith}
 use lib.Arith.{digits-lt, digits-div}
@@ -129,11 +129,12 @@ rows-other {F} {a} {b} {t} d e g le p n j h k = p .off (b + n * t + j) (λ n′ 
 pub bounded-more : {r q a t m c : ℕ} {l : List ℤ} → Bounded r a t m c l → r ≤ q → Bounded q a t m c l
 bounded-more p h = record { each = λ j k n i. within-more (p .each j k n i) h }
 
-pub bounded-fewer : {r a t m c : ℕ} {l : List ℤ} (m′ : ℕ) → Bounded r a t m c l → m′ ≤ m → Bounded r a t m′ c l
-bounded-fewer m′ p h = record { each = λ j k n i. p .each j k n (omega arith) }
-
 pub rows-bounded : {r a t m c d : ℕ} {l : List ℤ} (e : ℕ) → Bounded r a t m c l → e ≤ m → RowsWithin r a t c d e l
 rows-bounded e p h = record { each = λ n j o i k. p .each j k n (omega arith) }
+
+-- rows d up to e, as far as there are q of them
+pub within-some : {r a t c : ℕ} {l : List ℤ} (d e q : ℕ) → RowsWithin r a t c d (min e q) l → RowsWithin r a t c (min d q) (min e q) l
+within-some d e q p = record { each = λ n j o h k. p .each n j (omega arith) h k }
 
 pub bounded-as : {r a t m c : ℕ} {l l′ : List ℤ} → Bounded r a t m c l → ((n j : ℕ) → n < m → j < c → lane a t l′ j n ≡ lane a t l j n) → Bounded r a t m c l′
 bounded-as p e = record { each = λ j k n i. rw (e n j i k) (p .each j k n i) }

@@ -6,18 +6,20 @@
 use mathlib.Core.Path.{_≡_, refl, sym, ap, ap₂, _∙_}
 use mathlib.Core.Bool.{Bool, true, false}
 use mathlib.Core.List.{List}
-use Prim.Native.Nat.{ℕ, _+_, _*_, _-_, _/_, _%_, _^_, _<_, _≤_}
+use Prim.Native.Nat.{ℕ, _+_, _*_, _-_, _/_, _%_, _^_, _<_, _≤_, min}
 use native.Mathlib.Omega.{arith}
 use lib.Arith.{digits-lt}
 use lib.Dec.{T, ltb}
 use lib.IntN.{ℤ}
 use lib.ListN.{length}
+use borrow.Author.Tests.{lt-ltb, le-ltb}
 use mir.Syntax.{w32}
 use Rattle.whole.specs.Within.{Within}
-use Rattle.whole.proofs.Linear.{within-fits}
+use Rattle.whole.proofs.Linear.{lin, ι-split, within-fits}
 use Rattle.kernel.specs.declared.Kernel.the-variants as kernel
 use Rattle.line.specs.Cells.{Line, cell}
 use Rattle.line.specs.Inner.{AllWithin, Agree}
+use Rattle.line.specs.Transform.{update}
 use Rattle.line.proofs.Bounds.{add-within, sub-within, first-within, second-within, within-more, predict-within, update-within}
 use Rattle.line.proofs.Cells.{by-lt}
 use Rattle.steps.specs.Moved.{moved}
@@ -25,8 +27,8 @@ use Rattle.runs.specs.Cells.{Pairs}
 use Rattle.runs.specs.declared.Step.{Step}
 use Rattle.runs.specs.declared.Step.the-variants.{SPlusP, TT, High, Low}
 use Rattle.lifting.specs.Parts.{lane, Parts, Bounded, Both}
-use Rattle.lifting.specs.Steps.{amount, EndToEnd, Fit, Lifted}
-use Rattle.lifting.specs.Lines.{pairFirst, pairSecond, firsts, seconds, PairFit, Pairable, RowsWithin}
+use Rattle.lifting.specs.Steps.{amount, movable, EndToEnd, Fit, Lifted}
+use Rattle.lifting.specs.Lines.{pairFirst, pairSecond, firsts, seconds, pairLows, PairFit, Pairable, RowsWithin}
 use Rattle.lifting.proofs.Rows.{row-place, row-in, line-in, run-place, same-row, parts-swap, rows-other}
 use Rattle.lifting.proofs.Lifts.{amount-local}
 
@@ -74,6 +76,21 @@ module _ {a b t c p q : ℕ} where
 pub both-none : (a b t c d p q : ℕ) (l : List ℤ) → Both (λ A B. A) (λ A B. B) a b t c d p q l l
 both-none a b t c d p q l = record { size = refl; first = λ n j o h k. refl; second = λ n j o h k. refl; off = λ i x y. refl }
 
+-- from no rows the lows are not moved
+moved-none : (add : Bool) (z : ℤ) (B : Line ℤ) (n : ℕ) → moved add z (amount Low 0 B n) ≡ z
+unfolding update
+moved-none true z B n = rw (ι-split z) (simp lin (omega arith))
+moved-none false z B n = rw (ι-split z) (simp lin (omega arith))
+
+pub lows-stay : (add : Bool) {a b t c q K : ℕ} {l l′ : List ℤ} (d e : ℕ) → K ≡ 0 → Both (λ A B. A) (λ A B. B) a b t c d e q l l′
+    → Both (λ A B n. moved add (A n) (amount Low K B n)) (λ A B. B) a b t c d e q l l′
+lows-stay add d e none f = rw none (record {
+  size = f .size;
+  first = λ n j o h k. f .first n j o h k ∙ sym (moved-none add _ _ n);
+  second = f .second;
+  off = f .off;
+})
+
 -- ---- pairs, as a run of rows and row after row
 module _ (join : Bool) {a b t c : ℕ} {l l′ : List ℤ} where
   pub pair-run : (n r : ℕ) → EndToEnd t c r
@@ -95,6 +112,30 @@ module _ (join : Bool) {a b t c : ℕ} {l l′ : List ℤ} where
         (λ k h e. y (n + k / c) (k % c) (omega arith) (omega (arith, row-in x a n k h)) (line-in x a n k h) (e ∙ run-place x a n k h))
         (λ k h e. z (n + k / c) (k % c) (omega arith) (omega (arith, row-in x b n k h)) (line-in x b n k h) (e ∙ run-place x b n k h));
   }
+
+-- ---- the first part of K pairs, and of a number behind them
+module _ (join : Bool) (K n : ℕ) (A B : Line ℤ) where
+  pub lows-pair : n < K → pairLows join K A B n ≡ pairFirst join (A n) (B n)
+  unfolding pairLows
+  lows-pair h = simp (lt-ltb n K h)
+
+  pub lows-alone : K ≤ n → pairLows join K A B n ≡ A n
+  unfolding pairLows
+  lows-alone h = simp (le-ltb n K h)
+
+-- rows d up to e, as far as there are q pairs
+pub pairs-some : (join : Bool) {a b t c p q : ℕ} {l l′ : List ℤ} (d e : ℕ) → Parts a b t p q c (length l) → e ≤ p
+    → Both (firsts join) (seconds join) a b t c (min d q) (min e q) (min e q) l l′ → Both (pairLows join q) (seconds join) a b t c d e (min e q) l l′
+pairs-some join {a} {b} {t} {c} {p} {q} d e g top f = record {
+  size = f .size;
+  first = λ n j o h k. by-lt n q
+      (λ lt. f .first n j (omega arith) (omega arith) k ∙ sym (lows-pair join q n _ _ lt))
+      (λ ge. f .off (a + n * t + j)
+      (λ n′ j′ u v r s. omega (arith, same-row a t c n j n′ j′ (g .wide) k r s)) (λ n′ j′ u v r s. g .apart n j n′ j′ (omega arith) k (omega arith) r s)
+      ∙ sym (lows-alone join q n _ _ ge));
+  second = λ n j o h k. f .second n j (omega arith) h k;
+  off = λ i u v. f .off i (λ n j o h k. u n j (omega arith) (omega arith) k) (λ n j o h k. v n j (omega arith) h k);
+}
 
 pub pairs-able : (join : Bool) {a b t c r : ℕ} {l : List ℤ} (n : ℕ) → EndToEnd t c r → Pairable join a b t c n (n + r) l
     → (k : ℕ) → k < r * c → PairFit join (cell l (a + n * t + k)) (cell l (b + n * t + k))
@@ -132,18 +173,18 @@ pub pairable-part : (join : Bool) {a b t c d e : ℕ} {l : List ℤ} (u v : ℕ)
 pairable-part join u v p x y = record { each = λ n j q h. p .each n j (omega arith) (omega arith) }
 
 -- ---- what fits 32 bits
-pub amount-within : (s : Step) (M a : ℕ) (L : Line ℤ) → AllWithin a M L → AllWithin (a + 1) M (amount s M L)
+pub amount-within : (s : Step) (M a : ℕ) (L : Line ℤ) → AllWithin a M L → AllWithin (a + 1) (movable s M) (amount s M L)
 amount-within SPlusP M a L all = predict-within kernel.SPlusP M a L all
 amount-within TT M a L all = predict-within kernel.TT M a L all
 amount-within High M a L all = predict-within kernel.FiveThree M a L all
-amount-within Low M a L all = λ n h. within-more (update-within M a L all n h) (omega arith)
+amount-within Low M a L all = λ n h. within-more (update-within M a n L all) (omega arith)
 
 pub moved-within : (add : Bool) (a b : ℕ) (t p : ℤ) → Within a t → Within b p → Within (a + b) (moved add t p)
 moved-within true a b t p v w = add-within a b t p v w
 moved-within false a b t p v w = sub-within a b t p v w
 
 -- a step on rows within p of a part, from a part within q
-pub rows-fit : (s : Step) (add : Bool) {M c d e u v t p q : ℕ} {l : List ℤ} → e ≤ M → RowsWithin p u t c d e l → Bounded q v t M c l → T (ltb (p + (q + 1)) (2 ^ 31)) → Fit s add M c d e u v t l
+pub rows-fit : (s : Step) (add : Bool) {M c d e u v t p q : ℕ} {l : List ℤ} → e ≤ movable s M → RowsWithin p u t c d e l → Bounded q v t M c l → T (ltb (p + (q + 1)) (2 ^ 31)) → Fit s add M c d e u v t l
 rows-fit s add {M} {v = v} {t = t} {p = p} {q = q} {l = l} le x y fits = record {
   fits = λ n j o h k. within-fits w32 fits (moved-within add p (q + 1) _ _ (x .each n j o h k) (amount-within s M q (lane v t l j) (y .each j k) n (omega arith)));
 }
@@ -162,8 +203,8 @@ first-local A A′ B B′ x y = x
 pub second-local : {p q : ℕ} → Local q p q (λ A B. B)
 second-local A A′ B B′ x y = y
 
-pub moves-second-local : {p q : ℕ} (s : Step) (add : Bool) → q ≤ p → Local q p q (λ A B n. moved add (B n) (amount s p A n))
+pub moves-second-local : {p q : ℕ} (s : Step) (add : Bool) → q ≤ movable s p → Local q p q (λ A B n. moved add (B n) (amount s p A n))
 moves-second-local {p} s add le A A′ B B′ x y n h = ap₂ (moved add) (y n h) (amount-local s p n A A′ (omega arith) x)
 
-pub moves-first-local : {p q : ℕ} (s : Step) (add : Bool) → p ≤ q → Local p p q (λ A B n. moved add (A n) (amount s q B n))
+pub moves-first-local : {p q : ℕ} (s : Step) (add : Bool) → p ≤ movable s q → Local p p q (λ A B n. moved add (A n) (amount s q B n))
 moves-first-local {p} {q} s add le A A′ B B′ x y n h = ap₂ (moved add) (x n h) (amount-local s q n B B′ (omega arith) y)

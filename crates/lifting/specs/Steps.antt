@@ -3,6 +3,7 @@
 --   amount s M x n        == what step s moves a number n by, from the line x
 --   lookBack s            == how many rows back step s looks
 --   lookAhead s           == how many rows ahead
+--   movable s M           == how many rows it can move from M rows: a line of odd length has one low more than highs, which kernel 3 moves from its highs
 --   tapsOf s M u v t n    == where row n of the part at u begins, and the rows of the part at v that it is moved from; the border rule says which
 --   movedRow s add M u v t l n j
 --                         == number n of line j of the part at u, moved by the amount from line j of the part at v
@@ -46,6 +47,12 @@ lookAhead SPlusP = 1
 lookAhead TT = 2
 lookAhead High = 1
 lookAhead Low = 0
+
+abbrev pub movable : Step → ℕ → ℕ
+movable SPlusP M = M
+movable TT M = M
+movable High M = M
+movable Low M = M + 1
 
 abbrev pub movedRow : Step → Bool → ℕ → ℕ → ℕ → ℕ → List ℤ → ℕ → ℕ → ℤ
 movedRow s add M u v t l n j = moved add (lane u t l j n) (amount s M (lane v t l j) n)

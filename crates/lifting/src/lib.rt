@@ -1,11 +1,11 @@
 // Lifting: the line transforms, forward and back, in place on lines side by side whose two parts stand in one buffer.
 ghost use mathlib.Core.Path.{_≡_};
-ghost use Prim.Native.Nat.{_+_, _*_, _^_, _≤_, _<_};
+ghost use Prim.Native.Nat.{_+_, _*_, _^_, _≤_, _<_, min};
 ghost use lib.ListN.{length};
 ghost use Rattle.line.specs.Transform as line;
 ghost use Rattle.runs.specs.Steps.{tapBound};
 ghost use Rattle.lifting.specs.Parts.{In, Parts, Bounded, Both};
-ghost use Rattle.lifting.specs.Steps.{lookBack, lookAhead, tapsOf, Straight, EndToEnd, Fit, Lifted};
+ghost use Rattle.lifting.specs.Steps.{lookBack, lookAhead, movable, tapsOf, Straight, EndToEnd, Fit, Lifted};
 ghost use Rattle.lifting.specs.Lines.{firsts, seconds, Pairable, RowsWithin, firstLows, firstHighs, secondLows, secondHighs, SecondTakes, lowsOf, highsOf};
 use kernel::Kernel;
 use runs::Step;
@@ -96,7 +96,7 @@ fn lift_rows(
     r: usize,
     add: bool,
 )
-    requires { ⌜ (0 < r) × (n + r ≤ m) ⌝ }
+    requires { ⌜ (0 < r) × (0 < m) × (n + r ≤ movable s m) ⌝ }
     requires { ⌜ Parts to from step (n + r) m lanes (length (now l)) ⌝ }
     requires { ⌜ EndToEnd step lanes r ⌝ }
     requires { ⌜ Straight s m n r ⌝ }
@@ -121,7 +121,7 @@ fn lift_each(
     b: usize,
     add: bool,
 )
-    requires { ⌜ (a ≤ b) × (b ≤ m) ⌝ }
+    requires { ⌜ (a ≤ b) × (0 < m) × (b ≤ movable s m) ⌝ }
     requires { ⌜ Parts to from step b m lanes (length (now l)) ⌝ }
     requires { ⌜ Bounded (tapBound s) from step m lanes (now l) ⌝ }
     requires { ⌜ Fit s add m lanes a b to from step (now l) ⌝ }
@@ -145,7 +145,7 @@ fn lift(
     b: usize,
     add: bool,
 )
-    requires { ⌜ (a ≤ b) × (b ≤ m) ⌝ }
+    requires { ⌜ (a ≤ b) × (0 < m) × (b ≤ movable s m) ⌝ }
     requires { ⌜ Parts to from step b m lanes (length (now l)) ⌝ }
     requires { ⌜ Bounded (tapBound s) from step m lanes (now l) ⌝ }
     requires { ⌜ Fit s add m lanes a b to from step (now l) ⌝ }
@@ -242,8 +242,8 @@ fn pairs(
     }
 }
 
-// The first step of a kernel, or that step undone, on the rows d up to e: kernels 0 to 2 make means and differences of pairs, kernel 3 takes what it
-// predicts off the highs.
+// The first step of a kernel, or that step undone, on the rows d up to e, as far as there are: kernels 0 to 2 make means and differences of pairs and
+// leave an unpaired low as it is, kernel 3 takes what it predicts off the highs.
 pub fn first_step(
     kernel: Kernel,
     undo: bool,
@@ -257,21 +257,24 @@ pub fn first_step(
     d: usize,
     e: usize,
 )
-    requires { ⌜ (d ≤ e) × (e ≤ lows) × (e ≤ highs) ⌝ }
+    requires { ⌜ (d ≤ e) × (e ≤ lows) × (0 < lows) ⌝ }
     requires { ⌜ Parts a b step lows highs lanes (length (now l)) ⌝ }
     requires { ⌜ Bounded (2 ^ 29) a step lows lanes (now l) ⌝ }
-    requires { ⌜ RowsWithin (2 ^ 29) b step lanes d e (now l) ⌝ }
-    ensures { λ _. ⌜ Both (firstLows undo kernel) (firstHighs undo kernel lows) a b step lanes d e e (now (l .entry)) (now (l .exit)) ⌝ }
+    requires { ⌜ RowsWithin (2 ^ 29) b step lanes d (min e highs) (now l) ⌝ }
+    ensures { λ _. ⌜ Both (firstLows undo kernel highs) (firstHighs undo kernel lows) a b step lanes d e (min e highs) (now (l .entry)) (now (l .exit)) ⌝ }
 {
+    let from = whole::least(d, highs);
+    let to = whole::least(e, highs);
     match kernel {
-        Kernel::S => pairs(l, a, b, step, lanes, d, e, undo),
-        Kernel::SPlusP => pairs(l, a, b, step, lanes, d, e, undo),
-        Kernel::TT => pairs(l, a, b, step, lanes, d, e, undo),
-        Kernel::FiveThree => lift(Step::High, l, b, a, step, lows, lanes, d, e, undo),
+        Kernel::S => pairs(l, a, b, step, lanes, from, to, undo),
+        Kernel::SPlusP => pairs(l, a, b, step, lanes, from, to, undo),
+        Kernel::TT => pairs(l, a, b, step, lanes, from, to, undo),
+        Kernel::FiveThree => lift(Step::High, l, b, a, step, lows, lanes, from, to, undo),
     }
 }
 
-// The second step, or that step undone, on the rows d up to e: kernels 1 and 2 take what they predict off the highs, kernel 3 smooths the lows.
+// The second step, or that step undone, on the rows d up to e, as far as there are: kernels 1 and 2 take what they predict off the highs, kernel 3
+// smooths the lows, if there are highs.
 pub fn second_step(
     kernel: Kernel,
     undo: bool,
@@ -285,16 +288,22 @@ pub fn second_step(
     d: usize,
     e: usize,
 )
-    requires { ⌜ (d ≤ e) × (e ≤ lows) × (e ≤ highs) ⌝ }
+    requires { ⌜ (d ≤ e) × (e ≤ lows) × (e ≤ highs + 1) × (0 < lows) ⌝ }
     requires { ⌜ Parts a b step lows highs lanes (length (now l)) ⌝ }
     requires { ⌜ SecondTakes kernel a b step lows highs lanes d e (now l) ⌝ }
-    ensures { λ _. ⌜ Both (secondLows undo kernel highs) (secondHighs undo kernel lows) a b step lanes d e e (now (l .entry)) (now (l .exit)) ⌝ }
+    ensures { λ _. ⌜ Both (secondLows undo kernel highs) (secondHighs undo kernel lows) a b step lanes d e (min e highs) (now (l .entry)) (now (l .exit)) ⌝ }
 {
+    let from = whole::least(d, highs);
+    let to = whole::least(e, highs);
     match kernel {
         Kernel::S => {}
-        Kernel::SPlusP => lift(Step::SPlusP, l, b, a, step, lows, lanes, d, e, undo),
-        Kernel::TT => lift(Step::TT, l, b, a, step, lows, lanes, d, e, undo),
-        Kernel::FiveThree => lift(Step::Low, l, a, b, step, highs, lanes, d, e, !undo),
+        Kernel::SPlusP => lift(Step::SPlusP, l, b, a, step, lows, lanes, from, to, undo),
+        Kernel::TT => lift(Step::TT, l, b, a, step, lows, lanes, from, to, undo),
+        Kernel::FiveThree => {
+            if 0 < highs {
+                lift(Step::Low, l, a, b, step, highs, lanes, d, e, !undo);
+            }
+        }
     }
 }
 
@@ -309,14 +318,14 @@ pub fn forward(
     highs: usize,
     lanes: usize,
 )
-    requires { ⌜ (lows ≡ highs) × (0 < highs) ⌝ }
+    requires { ⌜ (0 < lows) × (highs ≤ lows) × (lows ≤ highs + 1) ⌝ }
     requires { ⌜ Parts a b step lows highs lanes (length (now l)) ⌝ }
     requires { ⌜ Bounded (5 * 2 ^ 22) a step lows lanes (now l) ⌝ }
     requires { ⌜ Bounded (5 * 2 ^ 22) b step highs lanes (now l) ⌝ }
-    ensures { λ _. ⌜ Both (lowsOf kernel lows) (highsOf kernel lows) a b step lanes 0 lows highs (now (l .entry)) (now (l .exit)) ⌝ }
+    ensures { λ _. ⌜ Both (lowsOf kernel lows highs) (highsOf kernel lows highs) a b step lanes 0 lows highs (now (l .entry)) (now (l .exit)) ⌝ }
 {
-    first_step(kernel, false, l, a, b, step, lows, highs, lanes, 0, highs);
-    second_step(kernel, false, l, a, b, step, lows, highs, lanes, 0, highs);
+    first_step(kernel, false, l, a, b, step, lows, highs, lanes, 0, lows);
+    second_step(kernel, false, l, a, b, step, lows, highs, lanes, 0, lows);
 }
 
 // The way back: the lows of `lanes` lines stand at a, their highs at b, and the lines' evens and odds take their place.
@@ -330,12 +339,12 @@ pub fn back(
     highs: usize,
     lanes: usize,
 )
-    requires { ⌜ (lows ≡ highs) × (0 < highs) ⌝ }
+    requires { ⌜ (0 < lows) × (highs ≤ lows) × (lows ≤ highs + 1) ⌝ }
     requires { ⌜ Parts a b step lows highs lanes (length (now l)) ⌝ }
     requires { ⌜ Bounded (2 ^ 28) a step lows lanes (now l) ⌝ }
     requires { ⌜ Bounded (2 ^ 24) b step highs lanes (now l) ⌝ }
-    ensures { λ _. ⌜ Both (line.undoneEvens kernel lows) (line.undoneOdds kernel lows) a b step lanes 0 lows highs (now (l .entry)) (now (l .exit)) ⌝ }
+    ensures { λ _. ⌜ Both (line.undoneEvens kernel lows highs) (line.undoneOdds kernel lows highs) a b step lanes 0 lows highs (now (l .entry)) (now (l .exit)) ⌝ }
 {
-    second_step(kernel, true, l, a, b, step, lows, highs, lanes, 0, highs);
-    first_step(kernel, true, l, a, b, step, lows, highs, lanes, 0, highs);
+    second_step(kernel, true, l, a, b, step, lows, highs, lanes, 0, lows);
+    first_step(kernel, true, l, a, b, step, lows, highs, lanes, 0, lows);
 }

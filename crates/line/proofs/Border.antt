@@ -1,7 +1,7 @@
 -- The laws of the border rule, which are all that the rest knows of it: an index that stands for u − d is inside and no farther off than asked,
 -- it is u − d where that is inside, and one past either end it is the end. Assumes nothing.
 use mathlib.Core.Path.{_≡_}
-use Prim.Native.Nat.{ℕ, _+_, _-_, _<_, _≤_, min}
+use Prim.Native.Nat.{ℕ, suc, _+_, _-_, _<_, _≤_, min}
 use native.Mathlib.Omega.{arith}
 use Rattle.line.specs.Transform.{inside}
 use Rattle.line.proofs.Cells.{by-lt}
@@ -14,14 +14,16 @@ pub inside-here : (M u d : ℕ) → d ≤ u → u - d < M → inside M u d ≡ u
 unfolding inside
 inside-here M u d p h = omega arith
 
--- one before and one after
-pub before-one : (M n : ℕ) → n < M → inside M n 1 ≡ n - 1
-unfolding inside
-before-one M n h = omega arith
-
+-- one after
 pub after-one : (M n : ℕ) → n < M → inside M (n + 1) 0 ≡ min (n + 1) (M - 1)
 unfolding inside
 after-one M n h = omega arith
+
+-- the two that kernel 3 looks back at, of K + 1 rows: n and the one before it, or the last row twice
+pub last-one : (K n : ℕ) → n ≤ K + 1
+    → (inside (suc K) n 1 ≤ n) × (n ≤ inside (suc K) n 1 + 1) × (inside (suc K) n 0 ≤ n) × (n ≤ inside (suc K) n 0 + 1)
+unfolding inside
+last-one K n h = omega arith
 
 -- d before n, and d after it
 module _ (M n d : ℕ) (h : n < M) where
@@ -51,3 +53,14 @@ module _ (M e v r d : ℕ) (h : r < v) (top : e + v ≤ M) where
   window-after p = by-lt (r + d) v
       (λ lt. after-inside M e v (r + d) lt top)
       (λ ge. after-end M e v (r + d) ge (omega arith) (omega arith))
+
+-- one row behind the last row, and the row before it
+past-end : (q d : ℕ) → d ≤ 1 → inside q q d ≡ q - 1
+unfolding inside
+past-end q d le = omega arith
+
+-- the row n + r of a window of q rows, or one row behind its last row
+pub window-last : (K n q r d : ℕ) → 0 < q → n + q ≤ K → r ≤ q → min (n + r + 1) K ≤ n + q → n ≤ n + r - 1 → d ≤ 1 → n + inside q r d ≡ inside K (n + r) d
+window-last K n q r d some top near ahead back le = by-lt r q
+    (λ lt. window-before K n q r d lt top (omega arith))
+    (λ ge. let e : r ≡ q = omega arith in let f : K ≡ n + q = omega arith in rw (e, f) (omega (arith, past-end q d le, past-end (n + q) d le)))

@@ -5,7 +5,7 @@ use Prim.Native.Nat.{ℕ, _+_, _*_, _-_, _/_, _%_, _<_, _≤_}
 use native.Mathlib.Decide.{decLt}
 use native.Mathlib.Omega.{arith}
 use borrow.Author.Tests.{lt-ltb, le-ltb}
-use Rattle.line.specs.Cells.{Line, joined, paired}
+use Rattle.line.specs.Cells.{Line, lowSide, joined, paired}
 
 -- ---- two cases of a test
 pub by-lt : {C : Type 0} (a b : ℕ) → (a < b → C) → (b ≤ a → C) → C
@@ -38,12 +38,14 @@ module _ {A : Type 0} (m : ℕ) (L D : Line A) where
   joined-high n = simp (le-ltb (m + n) m (omega arith)) (ap D (omega arith))
 
 -- a fact of each cell of a joined line of w cells, from its lows and its highs
-pub joined-each : {A : Type 0} (P : ℕ → A → Type 0) (w : ℕ) (L D : Line A) → w % 2 ≡ 0
-    → ((n : ℕ) → n < w / 2 → P n (L n)) → ((n : ℕ) → n < w / 2 → P (w / 2 + n) (D n)) → (x : ℕ) → x < w → P x (joined (w / 2) L D x)
-joined-each P w L D even low high x h = by-lt x (w / 2)
-    (λ lt. rw (joined-low (w / 2) L D x lt) (low x lt))
-    (λ ge. let e : w / 2 + (x - w / 2) ≡ x = omega arith in
-    let t : P (w / 2 + (x - w / 2)) (joined (w / 2) L D (w / 2 + (x - w / 2))) = rw (joined-high (w / 2) L D (x - w / 2)) (high (x - w / 2) (omega arith)) in
+pub joined-each : {A : Type 0} (P : ℕ → A → Type 0) (w : ℕ) (L D : Line A)
+    → ((n : ℕ) → n < lowSide w → P n (L n)) → ((n : ℕ) → n < w / 2 → P (lowSide w + n) (D n)) → (x : ℕ) → x < w → P x (joined (lowSide w) L D x)
+joined-each P w L D low high x h =
+    let m = lowSide w in
+    by-lt x m
+    (λ lt. rw (joined-low m L D x lt) (low x lt))
+    (λ ge. let e : m + (x - m) ≡ x = omega arith in
+    let t : P (m + (x - m)) (joined m L D (m + (x - m))) = rw (joined-high m L D (x - m)) (high (x - m) (omega arith)) in
     rw e at t)
 
 module _ {A : Type 0} (E O : Line A) where
@@ -60,8 +62,8 @@ module _ {A : Type 0} (E O : Line A) where
       rw (r, q)
 
 -- a fact of each cell of a paired line of w cells
-pub paired-each : {A : Type 0} (P : ℕ → A → Type 0) (w : ℕ) (E O : Line A) → w % 2 ≡ 0
-    → ((n : ℕ) → n < w / 2 → P (2 * n) (E n)) → ((n : ℕ) → n < w / 2 → P (2 * n + 1) (O n)) → (x : ℕ) → x < w → P x (paired E O x)
-paired-each P w E O even first second = by-parity (λ x. x < w → P x (paired E O x))
+pub paired-each : {A : Type 0} (P : ℕ → A → Type 0) (w : ℕ) (E O : Line A)
+    → ((n : ℕ) → n < lowSide w → P (2 * n) (E n)) → ((n : ℕ) → n < w / 2 → P (2 * n + 1) (O n)) → (x : ℕ) → x < w → P x (paired E O x)
+paired-each P w E O first second = by-parity (λ x. x < w → P x (paired E O x))
     (λ n h. rw (paired-even E O n) (first n (omega arith)))
     (λ n h. rw (paired-odd E O n) (second n (omega arith)))

@@ -2,6 +2,7 @@
 --
 --   Line A       == a line of cells of A; a rule says how many of them count
 --   choose b x y == x if b, else y
+--   lowSide w    == how many of the w numbers of a line are lows: half of them, rounded up; w / 2 are highs
 --   joined m L D == L in front, m cells of it, and D behind
 --   behind m X   == the cells of X from m on
 --   evens X      == X(0), X(2), .., as a line
@@ -25,6 +26,9 @@ Line A = ℕ → A
 abbrev pub choose : {A : Type 0} → Bool → A → A → A
 choose true x y = x
 choose false x y = y
+
+abbrev pub lowSide : ℕ → ℕ
+lowSide w = (w + 1) / 2
 
 unfoldable pub joined : {A : Type 0} → ℕ → Line A → Line A → Line A
 joined m L D x = choose (ltb x m) (L x) (D (x - m))

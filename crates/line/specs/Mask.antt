@@ -1,4 +1,4 @@
--- The mask of a line of 2M marks (docs/FORMAT.md, "Region and mask").
+-- The mask of a line of marks, of M lows and K highs (docs/FORMAT.md, "Region and mask").
 --
 --   marked b          == the mark that a byte is
 --   byteOf m          == the byte of a mark: 1 for marked, 0 for unmarked
@@ -6,9 +6,9 @@
 --   near r n k        == k is within the reach r of n
 --   mark N B u d      == B's mark at the index u − d; what is missing, outside 0 .. N − 1, counts as unmarked
 --   pairMark B n      == P(n): X(2n) or X(2n+1) is marked
---   reachMark r M B n == any P(k) with k within the reach r of n is marked
---   lowMark k M B     == which lows are marked
---   highMark k M B    == which highs are marked
+--   reachMark r K B n == any P(k), k below K, with k within the reach r of n is marked
+--   lowMark k M K B   == which lows are marked
+--   highMark k M K B  == which highs are marked
 --   maskLine k w B    == the marks of a transformed line of w numbers: of its lows in front, of its highs behind
 --
 -- Assumes nothing: these are definitions.
@@ -18,7 +18,7 @@ use lib.Dec.{leb, ltb, eqb}
 use Rattle.kernel.specs.declared.Kernel.{Kernel}
 use Rattle.kernel.specs.declared.Kernel.the-variants.{S, SPlusP, TT, FiveThree}
 use Rattle.kernel.specs.Kernels.{reach}
-use Rattle.line.specs.Cells.{Line, joined}
+use Rattle.line.specs.Cells.{Line, lowSide, joined}
 
 abbrev pub marked : ℕ → Bool
 marked b = eqb b 1
@@ -42,19 +42,20 @@ pairMark B n = B (2 * n) || B (2 * n + 1)
 
 -- any P(k) with k within the reach of n
 abbrev pub reachMark : ℕ → ℕ → Line Bool → Line Bool
-reachMark r M B n = anyBelow M (λ k. near r n k && pairMark B k)
+reachMark r K B n = anyBelow K (λ k. near r n k && pairMark B k)
 
-unfoldable pub lowMark : Kernel → ℕ → Line Bool → Line Bool
-lowMark S M B n = reachMark (reach S) M B n
-lowMark SPlusP M B n = reachMark (reach SPlusP) M B n
-lowMark TT M B n = reachMark (reach TT) M B n
-lowMark FiveThree M B n = B (2 * n) || B (2 * n + 1) || mark (2 * M) B (2 * n) 1
+-- kernels 0 to 2: X(2n) is named for the unpaired sample, which marks its own low alone; of a pair, P(n) has it
+unfoldable pub lowMark : Kernel → ℕ → ℕ → Line Bool → Line Bool
+lowMark S M K B n = reachMark (reach S) K B n || B (2 * n)
+lowMark SPlusP M K B n = reachMark (reach SPlusP) K B n || B (2 * n)
+lowMark TT M K B n = reachMark (reach TT) K B n || B (2 * n)
+lowMark FiveThree M K B n = B (2 * n) || mark (M + K) B (2 * n + 1) 0 || mark (M + K) B (2 * n) 1
 
-unfoldable pub highMark : Kernel → ℕ → Line Bool → Line Bool
-highMark S M B n = pairMark B n
-highMark SPlusP M B n = pairMark B n
-highMark TT M B n = pairMark B n
-highMark FiveThree M B n = B (2 * n + 1) || lowMark FiveThree M B n || mark M (lowMark FiveThree M B) (n + 1) 0
+unfoldable pub highMark : Kernel → ℕ → ℕ → Line Bool → Line Bool
+highMark S M K B n = pairMark B n
+highMark SPlusP M K B n = pairMark B n
+highMark TT M K B n = pairMark B n
+highMark FiveThree M K B n = B (2 * n + 1) || lowMark FiveThree M K B n || mark M (lowMark FiveThree M K B) (n + 1) 0
 
 unfoldable pub maskLine : Kernel → ℕ → Line Bool → Line Bool
-maskLine k w B = joined (w / 2) (lowMark k (w / 2) B) (highMark k (w / 2) B)
+maskLine k w B = joined (lowSide w) (lowMark k (lowSide w) (w / 2) B) (highMark k (lowSide w) (w / 2) B)

@@ -1,10 +1,8 @@
 // The line mask, on lines side by side in one buffer: the marks of their evens and odds become those of their lows and highs.
-ghost use mathlib.Core.Path.{_≡_};
 ghost use Prim.Native.Nat.{_+_, _≤_};
 ghost use lib.ListN.{length};
 ghost use Rattle.kernel.specs.declared.Kernel.the-variants.{FiveThree};
-ghost use Rattle.line.specs.Mask.{pairMark, reachMark};
-ghost use Rattle.line_mask.specs.Marks.{lineMarks, Apart, Parts, Joined, Marked, Masked};
+ghost use Rattle.line_mask.specs.Marks.{Apart, Parts, Joined, Reached, Masked};
 use kernel::Kernel;
 
 // Joins n marks, from `from` on, to those from `at` on.
@@ -18,7 +16,7 @@ fn join_marks(marks: &mut [u8], at: usize, from: usize, n: usize)
     }
 }
 
-// Kernels 0 to 2: a high has the mark of its pair, a low those of the pairs within reach.
+// Kernels 0 to 2: a high has the mark of its pair, a low those of the pairs within reach; an unpaired sample marks its own low alone.
 fn mask_pairs(
     reach: usize,
     marks: &mut [u8],
@@ -28,8 +26,8 @@ fn mask_pairs(
     highs: usize,
     lanes: usize,
 )
-    requires { ⌜ (lows ≡ highs) × Parts a b lanes lows highs (now marks) ⌝ }
-    ensures { λ _. ⌜ Marked (λ n j. reachMark reach lows (lineMarks a b lanes (now (marks .entry)) j) n) (λ n j. pairMark (lineMarks a b lanes (now (marks .entry)) j) n) a b lanes lows highs (now (marks .entry)) (now (marks .exit)) ⌝ }
+    requires { ⌜ Parts a b lanes lows highs (now marks) ⌝ }
+    ensures { λ _. ⌜ Reached reach a b lanes lows highs (now (marks .entry)) (now (marks .exit)) ⌝ }
 {
     let low_count = lows * lanes;
     let high_count = highs * lanes;
@@ -37,7 +35,7 @@ fn mask_pairs(
     join_marks(marks, a, b, high_count); // each low's own pair
     for k in 0..reach {
         let d = k + 1;
-        if d < highs {
+        if d < lows {
             let shift = d * lanes;
             join_marks(marks, a + shift, b, low_count - shift);
             join_marks(marks, a, b + shift, high_count - shift);
@@ -47,7 +45,7 @@ fn mask_pairs(
 
 // Kernel 3: a low has the marks of X(2n), X(2n+1) and X(2n−1), a high those of X(2n+1), low n and low n+1.
 fn mask_five_three(marks: &mut [u8], a: usize, b: usize, lows: usize, highs: usize, lanes: usize)
-    requires { ⌜ (lows ≡ highs) × Parts a b lanes lows highs (now marks) ⌝ }
+    requires { ⌜ Parts a b lanes lows highs (now marks) ⌝ }
     ensures { λ _. ⌜ Masked FiveThree a b lanes lows highs (now (marks .entry)) (now (marks .exit)) ⌝ }
 {
     let low_count = lows * lanes;
@@ -69,7 +67,7 @@ pub fn mask(
     highs: usize,
     lanes: usize,
 )
-    requires { ⌜ (lows ≡ highs) × Parts a b lanes lows highs (now marks) ⌝ }
+    requires { ⌜ Parts a b lanes lows highs (now marks) ⌝ }
     ensures { λ _. ⌜ Masked kernel a b lanes lows highs (now (marks .entry)) (now (marks .exit)) ⌝ }
 {
     match kernel {

@@ -6,18 +6,20 @@
 use mathlib.Core.Path.{_≡_, sym, ap, _∙_}
 use mathlib.Core.Bool.{Bool, true, false}
 use mathlib.Core.List.{List}
-use Prim.Native.Nat.{ℕ, _+_, _*_, _-_, _/_, _<_, _≤_}
-use native.Mathlib.Nat.{add-mul, mul-assoc, mul-comm, one-mul, mul-le-mul-right}
+use Prim.Native.Nat.{ℕ, _+_, _*_, _-_, _/_, _<_, _≤_, min}
+use native.Mathlib.Nat.{add-mul, mul-assoc, mul-comm, one-mul}
 use native.Mathlib.Omega.{arith}
 use lib.Arith.{digits-lt}
 use lib.IntN.{ℤ, pos}
 use lib.ListN.{length}
-use Rattle.line.specs.Cells.{cell}
+use Rattle.line.specs.Cells.{cell, lowSide}
 use Rattle.grid.proofs.Passes.{row-of}
 use Rattle.transfer.specs.Moved.{Rows, Moved}
+use Rattle.transfer.proofs.Strips.{some-rows}
 use Rattle.lifting.specs.Parts.{lane}
 use Rattle.passes.specs.Passes.{Area}
 use Rattle.passes.specs.Pairs.{PairsPlaced}
+use Rattle.passes.proofs.Running.{area-place}
 
 abbrev pub at : ℕ → Bool → ℕ → ℕ
 at S false i = 2 * i * S
@@ -61,70 +63,73 @@ pair-of S w c c′ i i′ x x′ wide h h′ e = half c c′ (row-of S (2 * i + 
     half true true p = omega arith
 
 -- ---- the rows of pairs a up to b, from the plane
-module _ (W S w m a b : ℕ) (p u : List ℤ) (top : b ≤ m) (y : Area W w (2 * m) (length p)) (z : Area S w (2 * m) (length u)) where
-  in-plane : (r k : ℕ) → r < 2 * m → k < w → r * W + k < length p
-  in-plane r k i j = omega (arith, digits-lt {q = r} {m = 2 * m} {r = k} {c = W} i (omega (arith, y .wide)), y .fits)
+module _ (W S w h a b : ℕ) (p u : List ℤ) (top : b ≤ lowSide h) (y : Area W w h (length p)) (z : Area S w h (length u)) where
+  abbrev left : ℕ
+  left = lowSide w
 
-  in-rows : (r k : ℕ) → r < 2 * m → k < w → r * S + k < length u
-  in-rows r k i j = omega (arith, digits-lt {q = r} {m = 2 * m} {r = k} {c = S} i (omega (arith, z .wide)), z .fits)
+  abbrev highRows : ℕ
+  highRows = min b (h / 2) - min a (h / 2)
 
-  in-pair : (c : Bool) (i k : ℕ) → i < m → k < w → at S c i + k < length u
-  in-pair false i k h j = omega (arith, at-row S false i k, in-rows (2 * i + 0) k (omega arith) j)
-  in-pair true i k h j = omega (arith, at-row S true i k, in-rows (2 * i + 1) k (omega arith) j)
+  -- the places of a row, and the place behind them
+  in-area : {stride size : ℕ} → Area stride w h size → (r k : ℕ) → r < h → k ≤ w → r * stride + k ≤ size
+  in-area v r k i j = omega (arith, v .some-w, area-place v r (w - 1) i (omega (arith, v .some-w)))
+
+  in-plane : (r k : ℕ) → r < h → k ≤ w → r * W + k ≤ length p
+  in-plane = in-area y
+
+  in-rows : (r k : ℕ) → r < h → k ≤ w → r * S + k ≤ length u
+  in-rows = in-area z
+
+  in-pair : (c : Bool) (i k : ℕ) → 2 * i + bit c < h → k ≤ w → at S c i + k ≤ length u
+  in-pair c i k l j = rw (at-row S c i k) (in-rows (2 * i + bit c) k l j)
 
   -- rows begin as far apart as pairs
   apart : (s c i n j : ℕ) → i < n → j < c → c ≤ 2 * S → s + i * (2 * S) + j < s + n * (2 * S)
-  apart s c i n j h k le = omega (arith, digits-lt {q = i} {m = n} {r = j} {c = 2 * S} h (omega arith))
+  apart s c i n j l k le = omega (arith, digits-lt {q = i} {m = n} {r = j} {c = 2 * S} l (omega arith))
 
-  pub right-rows : Rows p (λ i. a * W + w / 2 + i * W) (λ i. at S false a + w / 2 + i * (2 * S)) (b - a) (w / 2) u
+  pub right-rows : Rows p (λ i. a * W + left + i * W) (λ i. at S false a + left + i * (2 * S)) (b - a) (w / 2) u
   right-rows = record {
-    some = omega (arith, y .some-w, y .even-w);
-    room = λ i h. record {
-      source = λ k j. omega (arith, add-mul a i W, in-plane (a + i) (w / 2 + k) (omega arith) (omega arith));
-      target = λ k j. omega (arith, at-more S false a i (w / 2 + k), in-pair false (a + i) (w / 2 + k) (omega arith) (omega arith));
+    begins = λ i l. (
+      omega (arith, add-mul a i W, in-plane (a + i) left (omega arith) (omega arith)),
+      omega (arith, at-more S false a i left, in-pair false (a + i) left (omega arith) (omega arith)),
+    );
+    room = λ i l. record {
+      source = λ k j. omega (arith, add-mul a i W, in-plane (a + i) (left + k + 1) (omega arith) (omega arith));
+      target = λ k j. omega (arith, at-more S false a i (left + k + 1), in-pair false (a + i) (left + k + 1) (omega arith) (omega arith));
     };
-    apart = λ i n j h k. apart (at S false a + w / 2) (w / 2) i n j h k (omega (arith, z .wide));
+    apart = λ i n j l k. apart (at S false a + left) (w / 2) i n j l k (omega (arith, z .wide));
   }
 
-  pub high-rows : Rows p (λ i. (m + a) * W + i * W) (λ i. at S true a + i * (2 * S)) (b - a) w u
-  high-rows = record {
-    some = y .some-w;
-    room = λ i h. record {
-      source = λ k j. omega (arith, add-mul (m + a) i W, in-plane (m + a + i) k (omega arith) j);
-      target = λ k j. omega (arith, at-more S true a i k, in-pair true (a + i) k (omega arith) j);
-    };
-    apart = λ i n j h k. apart (at S true a) w i n j h k (omega (arith, z .wide));
-  }
+  pub high-rows : Rows p (λ i. (lowSide h + a) * W + i * W) (λ i. at S true a + i * (2 * S)) highRows w u
+  high-rows = some-rows (y .some-w)
+      (λ i l. record {
+        source = λ k j. omega (arith, add-mul (lowSide h + a) i W, in-plane (lowSide h + a + i) (k + 1) (omega arith) (omega arith));
+        target = λ k j. omega (arith, at-more S true a i (k + 1), in-pair true (a + i) (k + 1) (omega arith) (omega arith));
+      })
+      (λ i n j l k. apart (at S true a) w i n j l k (omega (arith, z .wide)))
 
-  module _ {u₁ u₂ : List ℤ} (f : Moved (pos 0) p (λ i. a * W + w / 2 + i * W) (λ i. at S false a + w / 2 + i * (2 * S)) (b - a) (w / 2) u u₁)
-      (g : Moved (pos 0) p (λ i. (m + a) * W + i * W) (λ i. at S true a + i * (2 * S)) (b - a) w u₁ u₂) where
-    right-cell : (i k : ℕ) → i < b - a → k < w / 2 → cell u₂ (at S false (a + i) + (w / 2 + k)) ≡ cell p ((a + i) * W + (w / 2 + k))
-    right-cell i k h j =
-        g .off (at S false (a + i) + (w / 2 + k)) (λ i′ k′ h′ j′ o. omega (
+  module _ {u₁ u₂ : List ℤ} (f : Moved (pos 0) p (λ i. a * W + left + i * W) (λ i. at S false a + left + i * (2 * S)) (b - a) (w / 2) u u₁)
+      (g : Moved (pos 0) p (λ i. (lowSide h + a) * W + i * W) (λ i. at S true a + i * (2 * S)) highRows w u₁ u₂) where
+    right-cell : (i k : ℕ) → i < b - a → k < w / 2 → cell u₂ (at S false (a + i) + (left + k)) ≡ cell p ((a + i) * W + (left + k))
+    right-cell i k l j =
+        g .off (at S false (a + i) + (left + k)) (λ i′ k′ l′ j′ o. omega (
           arith,
-          row-of S (2 * (a + i) + 0) (2 * (a + i′) + 1) (w / 2 + k) k′ (omega (arith, z .wide)) (omega (arith, z .wide))
-              (sym (at-row S false (a + i) (w / 2 + k)) ∙ o ∙ at-more S true a i′ k′ ∙ at-row S true (a + i′) k′),
+          row-of S (2 * (a + i) + 0) (2 * (a + i′) + 1) (left + k) k′ (omega (arith, z .wide)) (omega (arith, z .wide))
+              (sym (at-row S false (a + i) (left + k)) ∙ o ∙ at-more S true a i′ k′ ∙ at-row S true (a + i′) k′),
         ))
-        ∙ ap (cell u₁) (sym (at-more S false a i (w / 2 + k)) ∙ omega arith) ∙ f .on i k h j ∙ ap (cell p) (omega (arith, add-mul a i W))
+        ∙ ap (cell u₁) (sym (at-more S false a i (left + k)) ∙ omega arith) ∙ f .on i k l j ∙ ap (cell p) (omega (arith, add-mul a i W))
 
-    high-cell : (i x : ℕ) → i < b - a → x < w → cell u₂ (at S true (a + i) + x) ≡ cell p ((m + (a + i)) * W + x)
-    high-cell i x h j = ap (cell u₂) (sym (at-more S true a i x)) ∙ g .on i x h j ∙ ap (cell p) (sum ∙ ap (λ (r : ℕ). r * W + x) (omega arith))
+    high-cell : (i x : ℕ) → i < highRows → x < w → cell u₂ (at S true (a + i) + x) ≡ cell p ((lowSide h + (a + i)) * W + x)
+    high-cell i x l j = ap (cell u₂) (sym (at-more S true a i x)) ∙ g .on i x l j ∙ ap (cell p) (sum ∙ ap (λ (r : ℕ). r * W + x) (omega arith))
       where
-        sum : (m + a) * W + i * W + x ≡ (m + a + i) * W + x
-        sum = omega (arith, add-mul (m + a) i W)
+        sum : (lowSide h + a) * W + i * W + x ≡ (lowSide h + a + i) * W + x
+        sum = omega (arith, add-mul (lowSide h + a) i W)
 
-    pub pairs-placed : PairsPlaced W S w m a b p u u₂
+    pub pairs-placed : PairsPlaced W S w h a b p u u₂
     pairs-placed = record {
       size = g .size ∙ f .size;
-      low = λ i x h l j k. let e : a + (i - a) ≡ i = omega arith in let d : w / 2 + (x - w / 2) ≡ x = omega arith in let s = right-cell (i - a) (x - w / 2) (omega arith) (omega (arith, y .even-w)) in rw (e, d) at s;
-      high = λ i x h l j. let e : a + (i - a) ≡ i = omega arith in let s = high-cell (i - a) x (omega arith) j in rw e at s;
-      off = λ j low high. g .off j (λ i k h l o. high (a + i) k (omega arith) (omega arith) l (o ∙ at-more S true a i k))
-          ∙ f .off j (λ i k h l o. low (a + i) (w / 2 + k) (omega arith) (omega arith) (omega arith) (omega arith) (o ∙ omega arith ∙ at-more S false a i (w / 2 + k)));
+      low = λ i x v l j k. let e : a + (i - a) ≡ i = omega arith in let d : left + (x - left) ≡ x = omega arith in let s = right-cell (i - a) (x - left) (omega arith) (omega arith) in rw (e, d) at s;
+      high = λ i x v l m j. let e : a + (i - a) ≡ i = omega arith in let s = high-cell (i - a) x (omega arith) j in rw e at s;
+      off = λ j low high. g .off j (λ i k l r o. high (a + i) k (omega arith) (omega arith) (omega arith) r (o ∙ at-more S true a i k))
+          ∙ f .off j (λ i k l r o. low (a + i) (left + k) (omega arith) (omega arith) (omega arith) (omega arith) (o ∙ omega arith ∙ at-more S false a i (left + k)));
     }
-
-  -- no place leaves 64 bits
-  pub plane-places : a ≤ b → (a * W ≤ length p) × ((m + a) * W ≤ length p)
-  plane-places le = (omega (arith, y .fits, mul-le-mul-right {m = a} {n = 2 * m} W (omega arith)), omega (arith, y .fits, mul-le-mul-right {m = m + a} {n = 2 * m} W (omega arith)))
-
-  pub row-places : a ≤ b → (2 * a * S ≤ length u) × (2 * S ≤ length u)
-  row-places le = (omega (arith, z .fits, mul-le-mul-right {m = 2 * a} {n = 2 * m} S (omega arith)), omega (arith, z .fits, mul-le-mul-right {m = 2} {n = 2 * m} S (omega (arith, z .some-h))))

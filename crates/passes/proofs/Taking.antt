@@ -6,7 +6,7 @@
 use mathlib.Core.Path.{_≡_, ap, subst, _∙_}
 use mathlib.Core.Bool.{true, false}
 use mathlib.Core.List.{List}
-use Prim.Native.Nat.{ℕ, _+_, _*_, _-_, _/_, _%_, _^_, _<_, _≤_}
+use Prim.Native.Nat.{ℕ, _+_, _*_, _-_, _/_, _^_, _<_, _≤_}
 use native.Mathlib.Nat.{add-mul}
 use native.Mathlib.Omega.{arith}
 use lib.Arith.{digits-lt}
@@ -17,21 +17,22 @@ use Rattle.line.specs.Inner.{Agree}
 use Rattle.line.specs.Transform.{undoneEvens, undoneOdds, forward, back}
 use Rattle.line.proofs.Cells.{by-lt, by-parity}
 use Rattle.line.proofs.Local.{forward-local, back-local}
+use Rattle.line.specs.Cells.{lowSide}
 use Rattle.grid.specs.Buffer.{strided, InBuffer, Lines}
-use Rattle.grid.specs.Picture.{lowSide}
 use Rattle.grid.specs.Placed.{woven}
 use Rattle.grid.proofs.Parted.{woven-even, woven-odd, parted-even, parted-odd}
 use Rattle.lifting.specs.Parts.{lane, Parts, Bounded, Both}
 use Rattle.lifting.specs.Lines.{lowsOf, highsOf}
 use Rattle.transfer.specs.Copied.{Room, Copied}
 use Rattle.transfer.specs.Moved.{Rows, Moved, Twofold}
+use Rattle.transfer.proofs.Strips.{some-rows}
 use Rattle.passes.specs.Passes.{Takes}
 use Rattle.passes.proofs.Places.{even-place, odd-place}
 use Rattle.passes.proofs.Forms.{forward-form, back-form}
 
 -- ---- two parts of c lines, one behind the other, in q
-pub two-parts : (w c size : ℕ) → w % 2 ≡ 0 → w < 2 ^ 32 → 0 < c → w * c ≤ size → Parts 0 (lowSide w * c) c (lowSide w) (w / 2) c size
-two-parts w c size even few lines room = record {
+pub two-parts : (w c size : ℕ) → w < 2 ^ 32 → 0 < c → w * c ≤ size → Parts 0 (lowSide w * c) c (lowSide w) (w / 2) c size
+two-parts w c size few lines room = record {
   few = (omega arith, omega arith);
   lines = lines;
   wide = omega arith;
@@ -41,14 +42,14 @@ two-parts w c size even few lines room = record {
 }
 
 -- a line alone
-pub line-parts : (w size : ℕ) → w % 2 ≡ 0 → w < 2 ^ 32 → w ≤ size → Parts 0 (lowSide w) 1 (lowSide w) (w / 2) 1 size
-line-parts w size even few room = let e : w / 2 * 1 ≡ w / 2 = omega arith in rw e at (two-parts w 1 size even few (omega arith) (omega arith))
+pub line-parts : (w size : ℕ) → w < 2 ^ 32 → w ≤ size → Parts 0 (lowSide w) 1 (lowSide w) (w / 2) 1 size
+line-parts w size few room = let e : lowSide w * 1 ≡ lowSide w = omega arith in rw e at (two-parts w 1 size few (omega arith) (omega arith))
 
 pub record Halved (l : List ℤ) (s t w c : ℕ) (q : List ℤ) : Type 0 where
   pub evens : (n j : ℕ) → n < lowSide w → j < c → lane 0 c q j n ≡ strided (pos 0) l (s + j) t (2 * n)
   pub odds : (n j : ℕ) → n < w / 2 → j < c → lane (lowSide w * c) c q j n ≡ strided (pos 0) l (s + j) t (2 * n + 1)
 
-module _ {l : List ℤ} {s t w c : ℕ} {q : List ℤ} (even : w % 2 ≡ 0) (h : Halved l s t w c q) where
+module _ {l : List ℤ} {s t w c : ℕ} {q : List ℤ} (h : Halved l s t w c q) where
   halved-woven : (j : ℕ) → j < c → Agree w (woven w (strided (pos 0) q (0 + j) c)) (strided (pos 0) l (s + j) t)
   halved-woven j k = by-parity (λ x. x < w → woven w (strided (pos 0) q (0 + j) c) x ≡ strided (pos 0) l (s + j) t x)
       (λ n r. woven-even w n (strided (pos 0) q (0 + j) c) ∙ ap (λ (i : ℕ). getD q i (pos 0)) (omega arith) ∙ h .evens n j (omega arith) k)
@@ -62,15 +63,15 @@ module _ {l : List ℤ} {s t w c : ℕ} {q : List ℤ} (even : w % 2 ≡ 0) (h :
     odds-bounded = record { each = λ j k n r. rw (h .odds n j r k) (all j k .takes (2 * n + 1) (omega arith)) }
 
   -- the lows and highs put back
-  pub forward-put : (k : Kernel) {q′ l′ : List ℤ} → Both (lowsOf k (lowSide w)) (highsOf k (lowSide w)) 0 (lowSide w * c) c c 0 (lowSide w) (w / 2) q q′ → length l′ ≡ length l
+  pub forward-put : (k : Kernel) {q′ l′ : List ℤ} → Both (lowsOf k (lowSide w) (w / 2)) (highsOf k (lowSide w) (w / 2)) 0 (lowSide w * c) c c 0 (lowSide w) (w / 2) q q′ → length l′ ≡ length l
       → ((n j : ℕ) → n < w → j < c → getD l′ (s + n * t + j) (pos 0) ≡ getD q′ (0 + n * c + j) (pos 0))
       → ((i : ℕ) → ((n j : ℕ) → n < w → j < c → i ≡ s + n * t + j → ⊥) → getD l′ i (pos 0) ≡ getD l i (pos 0))
       → Lines (forward k) (pos 0) s t w c l l′
   forward-put k {q′} f same on off =
       let e : lowSide w * c ≡ 0 + lowSide w * c = omega arith in
-      let g = forward-form k w c even q q′ 0 c (subst (λ (b : ℕ). Both (lowsOf k (lowSide w)) (highsOf k (lowSide w)) 0 b c c 0 (lowSide w) (w / 2) q q′) e f) in record {
+      let g = forward-form k w c q q′ 0 c (subst (λ (b : ℕ). Both (lowsOf k (lowSide w) (w / 2)) (highsOf k (lowSide w) (w / 2)) 0 b c c 0 (lowSide w) (w / 2) q q′) e f) in record {
         size = same;
-        on = λ n j r i. on n j r i ∙ g .on n j r i ∙ forward-local k w _ (strided (pos 0) l (s + j) t) even (halved-woven j i) n r;
+        on = λ n j r i. on n j r i ∙ g .on n j r i ∙ forward-local k w _ (strided (pos 0) l (s + j) t) (halved-woven j i) n r;
         off = off;
       }
 
@@ -82,32 +83,32 @@ module _ {l : List ℤ} {at : ℕ} (w : ℕ) (i : InBuffer l at 1 w 1) where
   pub row-back-room : {q : List ℤ} → w ≤ length q → Room q 0 at w l
   row-back-room h = record { source = λ k r. omega arith; target = λ k r. omega (arith, i .place k 0 r (omega arith)) }
 
-  pub pair-ends : (k : ℕ) → k < w / 2 → at + 2 * k + 1 < length l
-  pair-ends k h = omega (arith, i .place (2 * k + 1) 0 (omega arith) (omega arith))
+  pub row-end : 0 < w → at + w ≤ length l
+  row-end some = omega (arith, i .place (w - 1) 0 (omega arith) (omega arith))
 
 pub row-halved : (l : List ℤ) (at w : ℕ) {q q′ : List ℤ}
-    → Twofold (pos 0) (λ k. getD l (at + 2 * k) (pos 0)) (λ k. getD l (at + 2 * k + 1) (pos 0)) (λ k. 0 + k) (λ k. lowSide w + k) (w / 2) q q′ → Halved l at 1 w 1 q′
+    → Twofold (pos 0) (λ k. getD l (at + 2 * k) (pos 0)) (λ k. getD l (at + 2 * k + 1) (pos 0)) (λ k. 0 + k) (λ k. lowSide w + k) (lowSide w) (w / 2) q q′ → Halved l at 1 w 1 q′
 row-halved l at w {q} {q′} p = record {
   evens = λ n j h k. ap (λ (i : ℕ). getD q′ i (pos 0)) (omega arith) ∙ p .first n h ∙ ap (λ (i : ℕ). getD l i (pos 0)) (omega arith);
   odds = λ n j h k. ap (λ (i : ℕ). getD q′ i (pos 0)) (omega arith) ∙ p .second n h ∙ ap (λ (i : ℕ). getD l i (pos 0)) (omega arith);
 }
 
-pub row-bounded : {l : List ℤ} {at w : ℕ} {q : List ℤ} → w % 2 ≡ 0 → Halved l at 1 w 1 q → Takes false w (strided (pos 0) l (at + 0) 1)
+pub row-bounded : {l : List ℤ} {at w : ℕ} {q : List ℤ} → Halved l at 1 w 1 q → Takes false w (strided (pos 0) l (at + 0) 1)
     → Bounded (5 * 2 ^ 22) 0 1 (lowSide w) 1 q × Bounded (5 * 2 ^ 22) (lowSide w) 1 (w / 2) 1 q
-row-bounded {l} {at} {w} {q} even h t =
+row-bounded {l} {at} {w} {q} h t =
     let all : (j : ℕ) → j < 1 → Takes false w (strided (pos 0) l (at + j) 1) = λ j k. let z : j ≡ 0 = omega arith in rw z t in
-    let e : w / 2 * 1 ≡ w / 2 = omega arith in (evens-bounded even h all, subst (λ (b : ℕ). Bounded (5 * 2 ^ 22) b 1 (w / 2) 1 q) e (odds-bounded even h all))
+    let e : lowSide w * 1 ≡ lowSide w = omega arith in (evens-bounded h all, subst (λ (b : ℕ). Bounded (5 * 2 ^ 22) b 1 (w / 2) 1 q) e (odds-bounded h all))
 
-pub row-forward : (k : Kernel) (l : List ℤ) (at w : ℕ) {q q′ l′ : List ℤ} → w % 2 ≡ 0 → Halved l at 1 w 1 q
-    → Both (lowsOf k (lowSide w)) (highsOf k (lowSide w)) 0 (lowSide w) 1 1 0 (lowSide w) (w / 2) q q′ → Copied (pos 0) q′ 0 at w l l′ → Lines (forward k) (pos 0) at 1 w 1 l l′
-row-forward k l at w {q} {q′} {l′} even h f u =
-    let e : w / 2 ≡ w / 2 * 1 = omega arith in
-    forward-put even h k (subst (λ (b : ℕ). Both (lowsOf k (lowSide w)) (highsOf k (lowSide w)) 0 b 1 1 0 (lowSide w) (w / 2) q q′) e f) (u .size)
+pub row-forward : (k : Kernel) (l : List ℤ) (at w : ℕ) {q q′ l′ : List ℤ} → Halved l at 1 w 1 q
+    → Both (lowsOf k (lowSide w) (w / 2)) (highsOf k (lowSide w) (w / 2)) 0 (lowSide w) 1 1 0 (lowSide w) (w / 2) q q′ → Copied (pos 0) q′ 0 at w l l′ → Lines (forward k) (pos 0) at 1 w 1 l l′
+row-forward k l at w {q} {q′} {l′} h f u =
+    let e : lowSide w ≡ lowSide w * 1 = omega arith in
+    forward-put h k (subst (λ (b : ℕ). Both (lowsOf k (lowSide w) (w / 2)) (highsOf k (lowSide w) (w / 2)) 0 b 1 1 0 (lowSide w) (w / 2) q q′) e f) (u .size)
     (λ n j r i. ap (λ (x : ℕ). getD l′ x (pos 0)) (omega arith) ∙ u .on n r ∙ ap (λ (x : ℕ). getD q′ x (pos 0)) (omega arith))
     (λ i no. by-lt i at (λ lt. u .below i lt) (λ ge. by-lt i (at + w) (λ lt. absurd (no (i - at) 0 (omega arith) (omega arith) (omega arith))) (λ far. u .above i far)))
 
 -- the way back
-module _ (l : List ℤ) (at w : ℕ) {q q′ : List ℤ} (even : w % 2 ≡ 0) (p : Copied (pos 0) l at 0 w q q′) where
+module _ (l : List ℤ) (at w : ℕ) {q q′ : List ℤ} (p : Copied (pos 0) l at 0 w q q′) where
   row-copied : Agree w (strided (pos 0) q′ (0 + 0) 1) (strided (pos 0) l (at + 0) 1)
   row-copied n h = ap (λ (i : ℕ). getD q′ i (pos 0)) (omega arith) ∙ p .on n h ∙ ap (λ (i : ℕ). getD l i (pos 0)) (omega arith)
 
@@ -123,13 +124,13 @@ module _ (l : List ℤ) (at w : ℕ) {q q′ : List ℤ} (even : w % 2 ≡ 0) (p
           rw e (all .takes .1 n h);
     }
 
-  pub row-back : (k : Kernel) {q″ l′ : List ℤ} → Both (undoneEvens k (lowSide w)) (undoneOdds k (lowSide w)) 0 (lowSide w) 1 1 0 (lowSide w) (w / 2) q′ q″
-      → Twofold (pos 0) (λ i. getD q″ (0 + i) (pos 0)) (λ i. getD q″ (lowSide w + i) (pos 0)) (λ i. at + 2 * i) (λ i. at + 2 * i + 1) (w / 2) l l′
+  pub row-back : (k : Kernel) {q″ l′ : List ℤ} → Both (undoneEvens k (lowSide w) (w / 2)) (undoneOdds k (lowSide w) (w / 2)) 0 (lowSide w) 1 1 0 (lowSide w) (w / 2) q′ q″
+      → Twofold (pos 0) (λ i. getD q″ (0 + i) (pos 0)) (λ i. getD q″ (lowSide w + i) (pos 0)) (λ i. at + 2 * i) (λ i. at + 2 * i + 1) (lowSide w) (w / 2) l l′
       → Lines (back k) (pos 0) at 1 w 1 l l′
   row-back k {q″} {l′} f u =
-      let e : w / 2 ≡ 0 + w / 2 * 1 = omega arith in
-      let g = back-form k w 1 even q′ q″ 0 1 (subst (λ (b : ℕ). Both (undoneEvens k (lowSide w)) (undoneOdds k (lowSide w)) 0 b 1 1 0 (lowSide w) (w / 2) q′ q″) e f) in
-      let same : Agree w (back k w (strided (pos 0) q′ (0 + 0) 1)) (back k w (strided (pos 0) l (at + 0) 1)) = back-local k w _ _ even row-copied in
+      let e : lowSide w ≡ 0 + lowSide w * 1 = omega arith in
+      let g = back-form k w 1 q′ q″ 0 1 (subst (λ (b : ℕ). Both (undoneEvens k (lowSide w) (w / 2)) (undoneOdds k (lowSide w) (w / 2)) 0 b 1 1 0 (lowSide w) (w / 2) q′ q″) e f) in
+      let same : Agree w (back k w (strided (pos 0) q′ (0 + 0) 1)) (back k w (strided (pos 0) l (at + 0) 1)) = back-local k w _ _ row-copied in
       record {
         size = u .size;
         on = λ n j h r. let z : j ≡ 0 = omega arith in rw z (by-parity (λ x. x < w → getD l′ (at + x * 1 + 0) (pos 0) ≡ back k w (strided (pos 0) l (at + 0) 1) x)
@@ -141,30 +142,24 @@ module _ (l : List ℤ) (at w : ℕ) {q q′ : List ℤ} (even : w % 2 ≡ 0) (p
       }
 
 -- ---- a strip of columns
-module _ {l : List ℤ} {s t c : ℕ} (h : ℕ) (even : h % 2 ≡ 0) (i : InBuffer l s t h c) where
+module _ {l : List ℤ} {s t c : ℕ} (h : ℕ) (i : InBuffer l s t h c) where
   pub strip-evens : {q : List ℤ} → h * c ≤ length q → Rows l (λ n. s + n * (2 * t)) (λ n. 0 + n * c) (lowSide h) c q
-  strip-evens le = record {
-    some = i .some;
-    room = λ n p. record { source = λ j r. rw (even-place s t n j) (i .place (2 * n) j (omega arith) r); target = λ j r. omega (arith, digits-lt {q = n} {m = h} {r = j} {c = c} (omega arith) r) };
-    apart = λ r n j p k. omega (arith, digits-lt {q = r} {m = n} {r = j} {c = c} p k);
-  }
+  strip-evens le = some-rows (i .some)
+      (λ n p. record { source = λ j r. rw (even-place s t n j) (i .place (2 * n) j (omega arith) r); target = λ j r. omega (arith, digits-lt {q = n} {m = h} {r = j} {c = c} (omega arith) r) })
+      (λ r n j p k. omega (arith, digits-lt {q = r} {m = n} {r = j} {c = c} p k))
 
   pub strip-odds : {q : List ℤ} → h * c ≤ length q → Rows l (λ n. s + t + n * (2 * t)) (λ n. lowSide h * c + n * c) (h / 2) c q
-  strip-odds le = record {
-    some = i .some;
-    room = λ n p. record {
-      source = λ j r. rw (odd-place s t n j) (i .place (2 * n + 1) j (omega arith) r);
-      target = λ j r. omega (arith, add-mul (lowSide h) n c, digits-lt {q = lowSide h + n} {m = h} {r = j} {c = c} (omega arith) r);
-    };
-    apart = λ r n j p k. omega (arith, digits-lt {q = r} {m = n} {r = j} {c = c} p k);
-  }
+  strip-odds le = some-rows (i .some)
+      (λ n p. record {
+        source = λ j r. rw (odd-place s t n j) (i .place (2 * n + 1) j (omega arith) r);
+        target = λ j r. omega (arith, add-mul (lowSide h) n c, digits-lt {q = lowSide h + n} {m = h} {r = j} {c = c} (omega arith) r);
+      })
+      (λ r n j p k. omega (arith, digits-lt {q = r} {m = n} {r = j} {c = c} p k))
 
   pub strip-put : {q : List ℤ} → h * c ≤ length q → Rows q (λ n. 0 + n * c) (λ n. s + n * t) h c l
-  strip-put le = record {
-    some = i .some;
-    room = λ n p. record { source = λ j r. omega (arith, digits-lt {q = n} {m = h} {r = j} {c = c} p r); target = λ j r. i .place n j p r };
-    apart = λ r n j p k. omega (arith, digits-lt {q = r} {m = n} {r = j} {c = t} p (omega (arith, i .apart)));
-  }
+  strip-put le = some-rows (i .some)
+      (λ n p. record { source = λ j r. omega (arith, digits-lt {q = n} {m = h} {r = j} {c = c} p r); target = λ j r. i .place n j p r })
+      (λ r n j p k. omega (arith, digits-lt {q = r} {m = n} {r = j} {c = t} p (omega (arith, i .apart))))
 
 pub strip-halved : (l : List ℤ) (s t h c : ℕ) {q q₁ q₂ : List ℤ} → Moved (pos 0) l (λ n. s + n * (2 * t)) (λ n. 0 + n * c) (lowSide h) c q q₁
     → Moved (pos 0) l (λ n. s + t + n * (2 * t)) (λ n. lowSide h * c + n * c) (h / 2) c q₁ q₂ → Halved l s t h c q₂

@@ -3,19 +3,18 @@
 --   lineTransform undo k   == the transform of a line by kernel k, or the way back
 --   pictured W s           == the picture that a buffer s of rows of W samples holds, as whole numbers
 --   Takes undo w X         == a line of w numbers that is taken within 32 bits
---   Area stride w h n      == an upper left area of w by h, both even, in n places of rows of `stride` numbers
+--   Area stride w h n      == an upper left area of w by h in n places, in rows `stride` apart, of which the last may end with the area
 --
 -- Assumes nothing: these are definitions.
-use mathlib.Core.Path.{_≡_}
 use mathlib.Core.Bool.{Bool, true, false}
 use mathlib.Core.List.{List}
-use Prim.Native.Nat.{ℕ, _*_, _/_, _%_, _^_, _<_, _≤_}
+use Prim.Native.Nat.{ℕ, _+_, _*_, _-_, _/_, _^_, _<_, _≤_}
 use lib.IntN.{ℤ, pos}
 use Rattle.kernel.specs.declared.Kernel.{Kernel}
-use Rattle.line.specs.Cells.{Line, behind}
+use Rattle.line.specs.Cells.{Line, behind, lowSide}
 use Rattle.line.specs.Inner.{AllWithin}
 use Rattle.line.specs.Transform.{forward, back}
-use Rattle.grid.specs.Picture.{Picture, Transform, lowSide, picture}
+use Rattle.grid.specs.Picture.{Picture, Transform, picture}
 
 abbrev pub lineTransform : Bool → Kernel → Transform ℤ
 lineTransform false k = forward k
@@ -34,9 +33,8 @@ pub record Takes (undo : Bool) (w : ℕ) (X : Line ℤ) : Type 0 where
 pub record Area (stride w h size : ℕ) : Type 0 where
   pub some-w : 0 < w
   pub some-h : 0 < h
-  pub even-w : w % 2 ≡ 0
-  pub even-h : h % 2 ≡ 0
   pub w-most : w ≤ 4096
   pub h-most : h ≤ 4096
   pub wide : w ≤ stride
-  pub fits : h * stride ≤ size
+  pub narrow : stride ≤ 2 ^ 32
+  pub fits : (h - 1) * stride + w ≤ size

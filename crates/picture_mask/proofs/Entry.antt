@@ -2,7 +2,7 @@
 use mathlib.Core.Path.{_≡_, sym, ap, _∙_, fun-ext}
 use mathlib.Core.Bool.{Bool, true, false}
 use mathlib.Core.List.{List}
-use Prim.Native.Nat.{ℕ, _-_, _/_, _%_, _<_, _≤_}
+use Prim.Native.Nat.{ℕ, _-_, _/_, _%_, _<_}
 use native.Mathlib.Nat.{mul-comm, mul-le-mul-right}
 use native.Mathlib.Omega.{arith}
 use lib.ListN.{length, getD, List·getD-eq-default}
@@ -11,16 +11,16 @@ use Rattle.kernel.specs.declared.Choice.the-variants.{Taken}
 use Rattle.kernel.specs.Kernels.{kernelOf, kernelTaken}
 use Rattle.line.specs.Mask.{byteOf}
 use Rattle.line.proofs.Cells.{by-lt}
-use Rattle.grid.specs.Buffer.{Halves}
-use Rattle.grid.specs.Picture.{Picture, rowPass, colPass, lowSide, walk, picture}
+use Rattle.line.specs.Cells.{lowSide}
+use Rattle.grid.specs.Picture.{Picture, rowPass, colPass, walk, picture}
 use Rattle.grid.specs.Placed.{onWoven, placed}
 use Rattle.grid.proofs.Passes.{cell-of}
-use Rattle.grid.proofs.Levels.{halves-of, halves-more, walk-more}
+use Rattle.grid.proofs.Levels.{walk-more}
 use Rattle.grid.proofs.Parted.{level-on-placed}
 use Rattle.plane.specs.Plane.{maskOf}
-use Rattle.refusal.specs.Tests.{badMark, badSizeAt}
+use Rattle.refusal.specs.Tests.{badMark}
 use Rattle.refusal.specs.Results.{Result}
-use Rattle.refusal.proofs.Passed.{multiples, marks}
+use Rattle.refusal.proofs.Passed.{Sides, sides, marks}
 use Rattle.picture_mask.specs.Masks.{regionOf, maskByte}
 use Rattle.picture_mask.specs.Areas.{Binary, Area, Whole, Region, bytes, maskOn, maskLineBytes}
 use Rattle.picture_mask.proofs.Local.{bytes-local}
@@ -34,31 +34,26 @@ region-binary l e = record {
 }
 
 module _ (J W H : ℕ) (l : List ℕ) (r : Region J W H l) where
-  region-halves : Halves J W H
-  region-halves = let s = multiples J W H (r .size) in halves-of J W H (s .1) (s .2)
-
-  pub region-more : (W % 2 ≡ 0) × (H % 2 ≡ 0) × Halves (J - 1) (lowSide W) (lowSide H)
-  region-more = halves-more J W H (r .levels) region-halves
+  region-sides : Sides W H
+  region-sides = sides W H (r .size)
 
   pub region-whole : Whole W H l
-  region-whole = let s = multiples J W H (r .size) .0 in record {
-    some-w = s .width .0;
-    some-h = s .height .0;
-    even-w = region-more .0;
-    even-h = region-more .1;
+  region-whole = record {
+    some-w = region-sides .width .0;
+    some-h = region-sides .height .0;
     full = r .full ∙ mul-comm W H;
     marks = r .marks;
   }
 
-  -- the low quarter after the first level
-  pub low-area : (l′ : List ℕ) → Whole W H l′ → Area W (W / 2) (H / 2) l′
-  low-area l′ z = let s = multiples J W H (r .size) .0 in record {
-    some-w = omega (arith, z .some-w, z .even-w);
-    some-h = omega (arith, z .some-h, z .even-h);
-    w-most = omega (arith, s .width .1);
-    h-most = omega (arith, s .height .1);
-    wide = omega arith;
-    fits = omega (arith, z .full, mul-le-mul-right {m = H / 2} {n = H} W (omega arith));
+  -- the low part after the first level
+  pub low-area : (l′ : List ℕ) → Whole W H l′ → Area W (lowSide W) (lowSide H) l′
+  low-area l′ z = let some = z .some-h in record {
+    some-w = omega (arith, z .some-w);
+    some-h = omega arith;
+    w-most = omega (arith, region-sides .width .1);
+    h-most = omega (arith, region-sides .height .1);
+    wide = omega (arith, z .some-w);
+    fits = omega (arith, z .full, mul-le-mul-right {m = lowSide H} {n = H} W (omega arith));
     marks = z .marks;
   }
 
@@ -73,21 +68,13 @@ module _ (J W H : ℕ) (l : List ℕ) (r : Region J W H l) where
         cell-of 0 W l₃ H i (omega (arith, r .full, mul-comm W H))
         ∙ ap (λ (P : Picture ℕ). P (i / W) (i % W))
         (s ∙ ap (walk T (J - 1) (lowSide W) (lowSide H))
-        (q ∙ ap (colPass (onWoven T) W H) (p ∙ ap (rowPass (onWoven T) W H) e) ∙ level-on-placed W H (bytes B) (region-more .0) (region-more .1) T (bytes-local k))
+        (q ∙ ap (colPass (onWoven T) W H) (p ∙ ap (rowPass (onWoven T) W H) e) ∙ level-on-placed W H (bytes B) T (bytes-local k))
         ∙ sym (walk-more T J W H (bytes B) (r .levels)) ∙ walk-bytes k J W H B);
   }
 
--- ---- the sides of a picture that takes a level
-pub sides-even : (J W H : ℕ) → 0 < J → badSizeAt J W H ≡ false → (W % 2 ≡ 0) × (H % 2 ≡ 0) × (W ≤ 4096) × (H ≤ 4096)
-sides-even J W H some e =
-    let s = multiples J W H e in let m = halves-more J W H some (halves-of J W H (s .1) (s .2)) in
-    (m .0, m .1, s .0 .width .1, s .0 .height .1)
-
 -- ---- the call: a region l, placed in the mask's buffer as c; what is placed are its marks
-pub placed-marks : (J W H : ℕ) (l c : List ℕ) → 0 < J → badSizeAt J W H ≡ false → Binary l → picture 0 W c ≡ placed W H (picture 0 W l) → Binary c
-placed-marks J W H l c some good b e =
-    let s = sides-even J W H some good in
-    binary-of W c (placed W H (picture 0 W l)) (multiples J W H good .0 .width .0) e (placed-most W H (picture 0 W l) (s .0) (s .1) (picture-most W l b))
+pub placed-marks : (W H : ℕ) (l c : List ℕ) → 0 < W → Binary l → picture 0 W c ≡ placed W H (picture 0 W l) → Binary c
+placed-marks W H l c some b e = binary-of W c (placed W H (picture 0 W l)) some e (placed-most W H (picture 0 W l) (picture-most W l b))
 
 -- the buffer held m
 module _ (n J W H : ℕ) (k : Kernel) (l m c : List ℕ) where

@@ -14,7 +14,7 @@ use lib.Arith.{digits-lt}
 use lib.Dec.{ltb}
 use lib.ListN.{length}
 use Rattle.kernel.specs.declared.Kernel.{Kernel}
-use Rattle.line.specs.Cells.{Line, choose}
+use Rattle.line.specs.Cells.{Line, choose, lowSide}
 use Rattle.line.specs.Mask.{maskLine, marked, byteOf}
 use Rattle.line.proofs.Cells.{by-lt}
 use Rattle.grid.specs.Picture.{Picture, Transform, onLine, rowPass, turned, colPass, picture}
@@ -45,18 +45,18 @@ module _ {T : Transform ℕ} {W w h : ℕ} {l : List ℕ} where
   cols-none = record { count = omega arith; same = refl; passed = pass-none T h (turned (picture 0 W l)) }
 
 module _ {T : Transform ℕ} {W w h : ℕ} {l₀ l l′ : List ℕ} (local : Local T) (wide : w ≤ W) where
-  pub rows-more : {y : ℕ} → w % 2 ≡ 0 → RowsMasked T W w h y l₀ l → y < h → Lines T 0 (y * W) 1 w 1 l l′ → RowsMasked T W w h (y + 1) l₀ l′
-  rows-more {y} even p lt f = record {
+  pub rows-more : {y : ℕ} → RowsMasked T W w h y l₀ l → y < h → Lines T 0 (y * W) 1 w 1 l l′ → RowsMasked T W w h (y + 1) l₀ l′
+  rows-more {y} p lt f = record {
     count = omega arith;
     same = f .size ∙ p .same;
-    passed = row-more 0 W T local l l′ w y (picture 0 W l₀) even wide f (p .passed);
+    passed = row-more 0 W T local l l′ w y (picture 0 W l₀) wide f (p .passed);
   }
 
-  pub cols-more : {x : ℕ} (c : ℕ) → h % 2 ≡ 0 → ColsMasked T W w h x l₀ l → x + c ≤ w → Lines T 0 x W h c l l′ → ColsMasked T W w h (x + c) l₀ l′
-  cols-more {x} c even p le f = record {
+  pub cols-more : {x : ℕ} (c : ℕ) → ColsMasked T W w h x l₀ l → x + c ≤ w → Lines T 0 x W h c l l′ → ColsMasked T W w h (x + c) l₀ l′
+  cols-more {x} c p le f = record {
     count = le;
     same = f .size ∙ p .same;
-    passed = col-more 0 W T local l l′ h x c (turned (picture 0 W l₀)) even (omega arith) f (p .passed);
+    passed = col-more 0 W T local l l′ h x c (turned (picture 0 W l₀)) (omega arith) f (p .passed);
   }
 
 -- ---- bytes that are marks, before a pass and after
@@ -87,10 +87,10 @@ unfolding picture
 picture-most W l b y x = choose-most (ltb x W) _ _ (b .each (y * W + x)) (omega arith)
 
 -- a placed picture holds what the picture holds
-pub placed-most : (W H : ℕ) (P : Picture ℕ) → W % 2 ≡ 0 → H % 2 ≡ 0 → ((y x : ℕ) → P y x ≤ 1) → (y x : ℕ) → placed W H P y x ≤ 1
-placed-most W H P p q all y x = by-lt y H
-    (λ lt. by-lt x W (λ k. rw (placed-cell W H P p q y x lt k) (all (source H y) (source W x))) (λ ge. rw (placed-right W H P p q y x ge) (all y x)))
-    (λ ge. rw (placed-below W H P p q y x ge) (all y x))
+pub placed-most : (W H : ℕ) (P : Picture ℕ) → ((y x : ℕ) → P y x ≤ 1) → (y x : ℕ) → placed W H P y x ≤ 1
+placed-most W H P all y x = by-lt y H
+    (λ lt. by-lt x W (λ k. rw (placed-cell W H P y x lt k) (all (source H y) (source W x))) (λ ge. rw (placed-right W H P y x ge) (all y x)))
+    (λ ge. rw (placed-below W H P y x ge) (all y x))
 
 pub binary-of : (W : ℕ) (l : List ℕ) (P : Picture ℕ) → 0 < W → picture 0 W l ≡ P → ((y x : ℕ) → P y x ≤ 1) → Binary l
 binary-of W l P some e all = record {
@@ -126,15 +126,15 @@ module _ {W w h : ℕ} {l : List ℕ} (l′ : List ℕ) (z : Area W w h l) (p : 
   pub cols-area : (k : Kernel) (n : ℕ) → picture 0 W l′ ≡ colPass (maskLineBytes k) n h (picture 0 W l) → Area W w h l′
   cols-area k n e = area-same (cols-binary (mask-made k) (omega (arith, z .some-w, z .wide)) (z .marks) n h e)
 
--- its low quarter
-pub area-low : {W w h : ℕ} {l : List ℕ} → Area W w h l → w % 2 ≡ 0 → h % 2 ≡ 0 → Area W (w / 2) (h / 2) l
-area-low {W} {w} {h} z p q = record {
+-- its low part
+pub area-low : {W w h : ℕ} {l : List ℕ} → Area W w h l → Area W (lowSide w) (lowSide h) l
+area-low {W} {w} {h} z = record {
   some-w = omega (arith, z .some-w);
   some-h = omega (arith, z .some-h);
   w-most = omega (arith, z .w-most);
   h-most = omega (arith, z .h-most);
-  wide = omega (arith, z .wide);
-  fits = let le : h / 2 * W ≤ h * W = mul-le-mul-right W (omega arith) in omega (arith, z .fits);
+  wide = omega (arith, z .some-w, z .wide);
+  fits = let le : lowSide h * W ≤ h * W = mul-le-mul-right W (omega (arith, z .some-h)) in omega (arith, z .fits);
   marks = z .marks;
 }
 
@@ -144,16 +144,15 @@ module _ {W w h : ℕ} {l : List ℕ} (z : Area W w h l) where
   row-in y p = omega (arith, z .wide, z .fits, mul-le-mul-right {m = y + 1} {n = h} W (omega arith))
 
   -- after it is parted, as l′
-  pub parted-parts : {l′ : List ℕ} (y low : ℕ) → y < h → w % 2 ≡ 0 → low ≡ w / 2 → PartedCopy 0 l (y * W) (y * W) w l l′ → Parts (y * W) (y * W + low) 1 low (w / 2) l′
-  parted-parts {l′} y low p even e f = rw e (parts-of (y * W) (y * W + w / 2) 1 w l′ even (omega arith) (z .some-w)
+  pub parted-parts : {l′ : List ℕ} (y low : ℕ) → y < h → low ≡ lowSide w → PartedCopy 0 l (y * W) (y * W) w l l′ → Parts (y * W) (y * W + low) 1 low (w / 2) l′
+  parted-parts {l′} y low p e f = rw e (parts-of (y * W) (y * W + lowSide w) 1 w l′ (omega arith) (z .some-w)
       (omega (arith, f .size, row-in y p))
       (λ i h. let q : byte l′ (y * W + i) ≡ byte l (y * W + source w i) = f .on i (omega arith) ∙ parted-source w i (λ v. byte l (y * W + v)) in
       rw q (z .marks .each (y * W + source w i))))
 
-  pub col-strip : h % 2 ≡ 0 → (x : List ℕ) → 32768 ≤ length x → (c : ℕ) → c ≤ 32768 / h → Strip h c x
-  col-strip even x room c le = record {
+  pub col-strip : (x : List ℕ) → 32768 ≤ length x → (c : ℕ) → c ≤ 32768 / h → Strip h c x
+  col-strip x room c le = record {
     some = z .some-h;
-    even = even;
     few = omega (arith, z .h-most);
     room = omega (arith, mul-le-mul-left h le, mul-comm h (32768 / h), div-mul-le-self 32768 h);
   }
@@ -170,21 +169,21 @@ module _ {W w h : ℕ} {l : List ℕ} (z : Area W w h l) where
 
 -- ---- what the first level's row y and its columns ask
 module _ {W H : ℕ} {l : List ℕ} (z : Whole W H l) where
-  pub row-parts : (y low : ℕ) → y < H → low ≡ W / 2 → Parts (y * W) (y * W + low) 1 low (W / 2) l
-  row-parts y low h e = rw e (parts-of (y * W) (y * W + W / 2) 1 W l (z .even-w) (omega arith) (z .some-w)
+  pub row-parts : (y low : ℕ) → y < H → low ≡ lowSide W → Parts (y * W) (y * W + low) 1 low (W / 2) l
+  row-parts y low h e = rw e (parts-of (y * W) (y * W + lowSide W) 1 W l (omega arith) (z .some-w)
       (omega (arith, z .full, mul-le-mul-right {m = y + 1} {n = H} W (omega arith))) (λ i p. z .marks .each (y * W + i)))
 
-  pub col-parts : (low : ℕ) → low ≡ H / 2 → Parts 0 (low * W) W low (H / 2) l
-  col-parts low e = rw e (parts-of 0 (H / 2 * W) W H l (z .even-h) (omega arith) (z .some-h) (omega (arith, z .full)) (λ i p. z .marks .each (0 + i)))
+  pub col-parts : (low : ℕ) → low ≡ lowSide H → Parts 0 (low * W) W low (H / 2) l
+  col-parts low e = rw e (parts-of 0 (lowSide H * W) W H l (omega arith) (z .some-h) (omega (arith, z .full)) (λ i p. z .marks .each (0 + i)))
 
   -- all columns at once
   pub cols-at-once : (T : Transform ℕ) {l′ : List ℕ} → Local T → Lines T 0 0 W H W l l′ → picture 0 W l′ ≡ colPass T W H (picture 0 W l)
   cols-at-once T {l′} local f =
       let e : 0 + W ≡ W = omega arith in
-      ap turned (rw e at (col-more 0 W T local l l′ H 0 W (turned (picture 0 W l)) (z .even-h) (omega arith) f (pass-none T H (turned (picture 0 W l)))))
+      ap turned (rw e at (col-more 0 W T local l l′ H 0 W (turned (picture 0 W l)) (omega arith) f (pass-none T H (turned (picture 0 W l)))))
 
   pub whole-same : {l′ : List ℕ} → length l′ ≡ length l → Binary l′ → Whole W H l′
-  whole-same e b = record { some-w = z .some-w; some-h = z .some-h; even-w = z .even-w; even-h = z .even-h; full = e ∙ z .full; marks = b }
+  whole-same e b = record { some-w = z .some-w; some-h = z .some-h; full = e ∙ z .full; marks = b }
 
 -- ---- the buffer while a pass runs
 module _ (k : Kernel) {W w h : ℕ} {l₀ l : List ℕ} (z : Area W w h l₀) where

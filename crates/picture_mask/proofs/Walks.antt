@@ -5,9 +5,9 @@ use Prim.Native.Nat.{ℕ, zero, suc, _≤_}
 use native.Mathlib.Omega.{arith}
 use lib.Dec.{ltb}
 use Rattle.kernel.specs.declared.Kernel.{Kernel}
-use Rattle.line.specs.Cells.{Line, choose}
+use Rattle.line.specs.Cells.{Line, choose, lowSide}
 use Rattle.line.specs.Mask.{maskLine, marked, byteOf}
-use Rattle.grid.specs.Picture.{Picture, onLine, rowPass, turned, colPass, lowSide, walk}
+use Rattle.grid.specs.Picture.{Picture, onLine, rowPass, turned, colPass, walk}
 use Rattle.picture_mask.specs.Areas.{bytes, maskLineBytes}
 
 mark-of : (m : Bool) → marked (byteOf m) ≡ m

@@ -1,9 +1,9 @@
 -- Passes over a mask, and what they ask of their buffers.
 --
 --   Binary l              == each byte of l is 0 or 1
---   Strip n c x           == working memory x has room for c lines of n marks, n even
+--   Strip n c x           == working memory x has room for c lines of n marks
 --   Area stride w h l     == an upper left area of w by h marks in a buffer l of rows of `stride` bytes
---   Whole W H l           == l is a picture of W by H marks, of even sides
+--   Whole W H l           == l is a picture of W by H marks
 --   Region J W H l        == l is the region of a picture of W by H that takes J levels
 --   bytes B               == the picture of the bytes of B's marks
 --   maskOn k J W H B i    == the mask's byte at place i of rows of W, of the region B
@@ -19,7 +19,7 @@ use Rattle.kernel.specs.declared.Kernel.{Kernel}
 use Rattle.line.specs.Mask.{maskLine, marked, byteOf}
 use Rattle.grid.specs.Picture.{Picture, Transform}
 use Rattle.plane.specs.Plane.{maskOf}
-use Rattle.refusal.specs.Tests.{badSizeAt}
+use Rattle.refusal.specs.Tests.{badSize}
 use Rattle.line_mask.specs.Marks.{byte}
 
 pub record Binary (l : List ℕ) : Type 0 where
@@ -27,7 +27,6 @@ pub record Binary (l : List ℕ) : Type 0 where
 
 pub record Strip (n c : ℕ) (x : List ℕ) : Type 0 where
   pub some : 0 < n
-  pub even : n % 2 ≡ 0
   pub few : n ≤ 4096
   pub room : n * c ≤ length x
 
@@ -43,14 +42,12 @@ pub record Area (stride w h : ℕ) (l : List ℕ) : Type 0 where
 pub record Whole (W H : ℕ) (l : List ℕ) : Type 0 where
   pub some-w : 0 < W
   pub some-h : 0 < H
-  pub even-w : W % 2 ≡ 0
-  pub even-h : H % 2 ≡ 0
   pub full : length l ≡ H * W
   pub marks : Binary l
 
 pub record Region (J W H : ℕ) (l : List ℕ) : Type 0 where
   pub levels : 0 < J
-  pub size : badSizeAt J W H ≡ false
+  pub size : badSize W H ≡ false
   pub full : length l ≡ W * H
   pub marks : Binary l
 

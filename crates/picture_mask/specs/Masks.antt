@@ -16,7 +16,7 @@ use Rattle.line.specs.Mask.{marked, byteOf}
 use Rattle.grid.specs.Picture.{Picture, picture}
 use Rattle.plane.specs.Plane.{maskOf}
 use Rattle.refusal.specs.Numbers.{Test, test}
-use Rattle.refusal.specs.Tests.{badKernel, badLevels, badSizeAt, badLength, badMark}
+use Rattle.refusal.specs.Tests.{badKernel, badLevels, badSize, badLength, badMark}
 
 abbrev pub regionOf : ℕ → List ℕ → Picture Bool
 regionOf W l y x = marked (picture 0 W l y x)
@@ -30,5 +30,5 @@ maskByte n = maskAt (theKernel n)
 -- n is the length of the mask buffer
 abbrev pub maskTests : ℕ → ℕ → ℕ → ℕ → List ℕ → ℕ → List Test
 maskTests k J W H region n =
-    test (badKernel k) 1 ∷ test (badLevels J) 2 ∷ test (badSizeAt J W H) 4 ∷ test (badLength W H (length region)) 5 ∷ test (badLength W H n) 5
+    test (badKernel k) 1 ∷ test (badLevels J) 2 ∷ test (badSize W H) 4 ∷ test (badLength W H (length region)) 5 ∷ test (badLength W H n) 5
     ∷ test (badMark region) 9 ∷ []

@@ -2,10 +2,11 @@
 // coefficient ends, so that its passes move nothing; the deeper levels go through working memory.
 ghost use mathlib.Core.Path.{_≡_};
 ghost use mathlib.Core.Bool.{Bool, true};
-ghost use Prim.Native.Nat.{_*_, _-_, _/_, _%_, _<_, _≤_};
+ghost use Prim.Native.Nat.{_-_, _<_, _≤_};
 ghost use lib.ListN.{length};
+ghost use Rattle.line.specs.Cells.{lowSide};
 ghost use Rattle.grid.specs.Picture.{Picture, rowPass, colPass, walk, picture};
-ghost use Rattle.grid.specs.Buffer.{InBuffer, Lines, Halves};
+ghost use Rattle.grid.specs.Buffer.{InBuffer, Lines};
 ghost use Rattle.grid.specs.Placed.{onWoven, placed};
 ghost use Rattle.refusal.specs.Numbers.{answerNumber, first, accepted};
 ghost use Rattle.refusal.specs.Results.{Result};
@@ -19,7 +20,7 @@ use refusal::Refusal;
 // The row pass over an area of w by h, in rows of stride bytes: each row is parted in place, and masked in its two parts.
 fn row_pass(kernel: Kernel, buf: &mut [u8], line: &mut [u16], stride: usize, w: usize, h: usize)
     requires { ⌜ Area stride w h (now buf) ⌝ }
-    requires { ⌜ (w % 2 ≡ 0) × (1024 ≤ length (now line)) ⌝ }
+    requires { ⌜ 1024 ≤ length (now line) ⌝ }
     ensures { λ _. ⌜ picture 0 stride (now (buf .exit)) ≡ rowPass (maskLineBytes kernel) w h (picture 0 stride (now (buf .entry))) ⌝ }
 {
     let low = w - w / 2;
@@ -54,7 +55,7 @@ fn columns(
 // The column pass over the same area, a strip of columns at a time: as many as the working memory holds.
 fn col_pass(kernel: Kernel, buf: &mut [u8], strip: &mut [u8], stride: usize, w: usize, h: usize)
     requires { ⌜ Area stride w h (now buf) ⌝ }
-    requires { ⌜ (h % 2 ≡ 0) × (32768 ≤ length (now strip)) ⌝ }
+    requires { ⌜ 32768 ≤ length (now strip) ⌝ }
     ensures { λ _. ⌜ picture 0 stride (now (buf .exit)) ≡ colPass (maskLineBytes kernel) w h (picture 0 stride (now (buf .entry))) ⌝ }
 {
     let most = 32768 / h;
@@ -78,7 +79,7 @@ fn rows(
     levels: usize,
 )
     requires { ⌜ Area stride w h (now buf) ⌝ }
-    requires { ⌜ Halves levels w h × (32768 ≤ length (now strip)) × (1024 ≤ length (now line)) ⌝ }
+    requires { ⌜ (32768 ≤ length (now strip)) × (1024 ≤ length (now line)) ⌝ }
     ensures { λ _. ⌜ picture 0 stride (now (buf .exit)) ≡ walk (maskLineBytes kernel) levels w h (picture 0 stride (now (buf .entry))) ⌝ }
 {
     if 0 < levels {
@@ -87,7 +88,7 @@ fn rows(
     }
 }
 
-// The columns of the first level, which hand the low quarter to `rows`.
+// The columns of the first level, which hand the low part to `rows`.
 fn cols(
     kernel: Kernel,
     buf: &mut [u8],
@@ -100,11 +101,13 @@ fn cols(
 )
     requires { ⌜ 0 < levels ⌝ }
     requires { ⌜ Area stride w h (now buf) ⌝ }
-    requires { ⌜ Halves levels w h × (32768 ≤ length (now strip)) × (1024 ≤ length (now line)) ⌝ }
-    ensures { λ _. ⌜ picture 0 stride (now (buf .exit)) ≡ walk (maskLineBytes kernel) (levels - 1) (w / 2) (h / 2) (colPass (maskLineBytes kernel) w h (picture 0 stride (now (buf .entry)))) ⌝ }
+    requires { ⌜ (32768 ≤ length (now strip)) × (1024 ≤ length (now line)) ⌝ }
+    ensures { λ _. ⌜ picture 0 stride (now (buf .exit)) ≡ walk (maskLineBytes kernel) (levels - 1) (lowSide w) (lowSide h) (colPass (maskLineBytes kernel) w h (picture 0 stride (now (buf .entry)))) ⌝ }
 {
     col_pass(kernel, buf, strip, stride, w, h);
-    rows(kernel, buf, strip, line, stride, w / 2, h / 2, levels - 1);
+    let low_w = w - w / 2;
+    let low_h = h - h / 2;
+    rows(kernel, buf, strip, line, stride, low_w, low_h, levels - 1);
 }
 
 // The first level's rows, which are placed: each is masked in its two parts.
@@ -144,8 +147,8 @@ pub fn mask_levels(kernel: Kernel, levels: usize, w: usize, h: usize, marks: &mu
         &mut strip,
         &mut line,
         w,
-        w / 2,
-        h / 2,
+        w - w / 2,
+        h - h / 2,
         levels - 1,
     );
 }
@@ -169,7 +172,7 @@ pub fn mask(
     if refusal::bad_levels(levels) {
         return Answer::Refused(Refusal::Levels);
     }
-    if refusal::bad_size_at(levels, w, h) {
+    if refusal::bad_size(w, h) {
         return Answer::Refused(Refusal::Size);
     }
     if region.len() != w * h {

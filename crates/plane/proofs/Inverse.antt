@@ -6,14 +6,13 @@ use Rattle.kernel.specs.declared.Kernel.{Kernel}
 use Rattle.line.specs.Transform.{forward, back}
 use Rattle.line.proofs.Local.{forward-local, back-local}
 use Rattle.line.proofs.Back.{back-forward, forward-back}
-use Rattle.grid.specs.Buffer.{Halves}
 use Rattle.grid.specs.Picture.{Picture}
 use Rattle.grid.proofs.Back.{walk-back, back-walk}
 use Rattle.plane.specs.Plane.{transformed, undone}
 
-module _ (k : Kernel) (J W H : ℕ) (P : Picture ℤ) (s : Halves J W H) where
+module _ (k : Kernel) (J W H : ℕ) (P : Picture ℤ) where
   pub undo-transform : undone k J W H (transformed k J W H P) ≡ P
-  undo-transform = walk-back (forward k) (back k) (λ w X Y even a. back-local k w X Y even a) (λ w X even. back-forward k w even X) J W H P s
+  undo-transform = walk-back (forward k) (back k) (back-local k) (back-forward k) J W H P
 
   pub transform-undo : transformed k J W H (undone k J W H P) ≡ P
-  transform-undo = back-walk (back k) (forward k) (λ w X Y even a. forward-local k w X Y even a) (λ w X even. forward-back k w even X) J W H P s
+  transform-undo = back-walk (back k) (forward k) (forward-local k) (forward-back k) J W H P

@@ -11,9 +11,8 @@ use Rattle.line.specs.Transform.{back}
 use Rattle.line.specs.Mask.{maskLine}
 use Rattle.line.specs.Cells.{count}
 use Rattle.line.proofs.Covered.{covered}
-use Rattle.grid.specs.Buffer.{Halves}
 use Rattle.grid.specs.Picture.{Picture, walk, side, AgreeOn}
-use Rattle.grid.proofs.Levels.{walk-add, halves-add, side-le}
+use Rattle.grid.proofs.Levels.{walk-add, side-le}
 use Rattle.grid.proofs.Covered.{walk-covered}
 use Rattle.plane.specs.Plane.{undone, maskOf, levelMask, levelPicture}
 use Rattle.plane.specs.Counts.{same, places, differs}
@@ -40,13 +39,13 @@ nowhere false a b e = refl
 nowhere true a b e = rw (e refl, same-self b)
 
 -- ---- the levels
-module _ (k : Kernel) (J W H : ℕ) (B : Picture Bool) (P P′ : Picture ℤ) (s : Halves J W H) (a : AgreeOn W H (maskOf k J W H B) P P′) (j : ℕ) (h : j ≤ J) where
+module _ (k : Kernel) (J W H : ℕ) (B : Picture Bool) (P P′ : Picture ℤ) (a : AgreeOn W H (maskOf k J W H B) P P′) (j : ℕ) (h : j ≤ J) where
   pub level-agrees : AgreeOn W H (levelMask k j W H B) (levelPicture k J j W H P) (levelPicture k J j W H P′)
   level-agrees =
       let e : j + (J - j) ≡ J = omega arith in
       let b : AgreeOn W H (maskOf k (j + (J - j)) W H B) P P′ = rw e a in
-      walk-covered (maskLine k) (back k) (λ w C Y Y′ even c. covered k w C Y Y′ even c) (J - j) W H (side j W) (side j H) (levelMask k j W H B) P P′
-      (side-le j W) (side-le j H) (halves-add j (J - j) W H (rw e s))
+      walk-covered (maskLine k) (back k) (covered k) (J - j) W H (side j W) (side j H) (levelMask k j W H B) P P′
+      (side-le j W) (side-le j H)
       (λ y x p q t. b y x p q (ap (λ (R : Picture Bool). R y x) (walk-add (maskLine k) j (J - j) W H B) ∙ t))
 
   pub level-exact : places (side j W) (side j H) (differs (levelMask k j W H B) (levelPicture k J j W H P) (levelPicture k J j W H P′)) ≡ 0

@@ -4,20 +4,20 @@
 --
 -- Assumes nothing.
 use mathlib.Core.Path.{_≡_, refl, sym, _∙_}
-use mathlib.Core.Bool.{Bool, true, false, not, _||_, false≢true}
+use mathlib.Core.Bool.{Bool, true, false, _||_, false≢true}
 use mathlib.Core.List.{List}
-use Prim.Native.Nat.{ℕ, _*_, _-_, _%_, _^_, _<_, _≤_}
+use Prim.Native.Nat.{ℕ, _*_, _-_, _^_, _<_, _≤_}
 use native.Mathlib.Nat.{mul-le-mul}
 use native.Mathlib.Omega.{arith}
-use borrow.Author.Tests.{ltb-false, leb-false, eqb-true, not-false}
-use lib.Dec.{ltb, leb, eqb}
+use borrow.Author.Tests.{ltb-false, leb-false}
+use lib.Dec.{ltb, leb}
 use lib.IntN.{ℤ, pos, natAbs}
 use lib.ListN.{length, getD}
 use mir.Syntax.{w64}
 use mir.Val.{Fits}
 use Rattle.line.specs.Mask.{anyBelow}
 use Rattle.line.proofs.Marks.{any-intro}
-use Rattle.refusal.specs.Tests.{outside, badSize, badSizeAt, badSample, badMark, badMagnitude}
+use Rattle.refusal.specs.Tests.{outside, badSize, badSample, badMark, badMagnitude}
 
 -- ---- neither of two, none of many
 pub neither : (a b : Bool) → (a || b) ≡ false → (a ≡ false) × (b ≡ false)
@@ -41,12 +41,6 @@ pub record Sides (W H : ℕ) : Type 0 where
 
 pub sides : (W H : ℕ) → badSize W H ≡ false → Sides W H
 sides W H e = let p = neither (outside 1 4096 W) (outside 1 4096 H) e in record { width = inside 1 4096 W (p .0); height = inside 1 4096 H (p .1) }
-
-pub multiples : (J W H : ℕ) → badSizeAt J W H ≡ false → Sides W H × (W % 2 ^ J ≡ 0) × (H % 2 ^ J ≡ 0)
-multiples J W H e =
-    let p = neither (badSize W H || not (eqb (W % 2 ^ J) 0)) (not (eqb (H % 2 ^ J) 0)) e in
-    let q = neither (badSize W H) (not (eqb (W % 2 ^ J) 0)) (p .0) in
-    (sides W H (q .0), eqb-true (W % 2 ^ J) 0 (not-false _ (q .1)), eqb-true (H % 2 ^ J) 0 (not-false _ (p .1)))
 
 pub area : {W H : ℕ} → Sides W H → Fits w64 (W * H)
 area {W} {H} s = let h : W * H ≤ 4096 * 4096 = mul-le-mul (s .width .1) (s .height .1) in omega arith

@@ -5,8 +5,7 @@
 --   badLevels J              == 2: J not 1 to 5
 --   badDepth D               == 3: D not 1 to 10
 --   badDrop q                == 3 of truncation: q above 22
---   badSize W H              == 4 of a call without J: W or H not 1 to 4,096
---   badSizeAt J W H          == 4: that, or not a multiple of 2^J
+--   badSize W H              == 4: W or H not 1 to 4,096
 --   badLength W H n          == 5: a buffer that is not W · H long
 --   badSample D l            == 6: a sample above 2^D − 1
 --   badNumbers l             == 7: rectangle numbers not a multiple of 4, or above 32 rectangles
@@ -41,9 +40,6 @@ badDrop q = ltb 22 q
 
 abbrev pub badSize : ℕ → ℕ → Bool
 badSize W H = outside 1 4096 W || outside 1 4096 H
-
-abbrev pub badSizeAt : ℕ → ℕ → ℕ → Bool
-badSizeAt J W H = badSize W H || not (eqb (W % 2 ^ J) 0) || not (eqb (H % 2 ^ J) 0)
 
 abbrev pub badLength : ℕ → ℕ → ℕ → Bool
 badLength W H n = not (eqb n (W * H))

@@ -93,14 +93,6 @@ pub fn power(n: usize) -> usize
     1 << n
 }
 
-pub fn bad_size_at(levels: usize, w: usize, h: usize) -> bool
-    requires { ⌜ levels ≤ 5 ⌝ }
-    ensures { λ r. ⌜ r ≡ tests.badSizeAt levels w h ⌝ }
-{
-    let unit = power(levels);
-    bad_size(w, h) | (w % unit != 0) | (h % unit != 0)
-}
-
 // The scans go through every cell, so that the compiler can test many at a time, and through four parts of their buffer side by side, so that
 // memory brings a line of each at a time.
 

@@ -8,7 +8,7 @@ use native.Mathlib.Nat.{div-add-mod', mod-lt, div-lt-iff-lt-mul}
 use native.Mathlib.Omega.{arith}
 use lib.Arith.{digits-div, digits-mod}
 use lib.ListN.{length, getD}
-use Rattle.line.specs.Cells.{choose}
+use Rattle.line.specs.Cells.{choose, lowSide}
 use Rattle.line.specs.Mask.{byteOf}
 use Rattle.line.proofs.Cells.{by-lt, by-parity}
 use Rattle.line.proofs.Marks.{or-left, or-right, or-cases}
@@ -23,7 +23,7 @@ use Rattle.region.proofs.Boxes.{within-intro, within-elim, box-intro, b
 use Rattle.region.proofs.Painted.{each-inside}
 
 -- ---- where a cell of a line ends, and where it comes from
-module _ (w : ℕ) (even : w % 2 ≡ 0) where
+module _ (w : ℕ) where
   pub place-lt : (n : ℕ) → n < w → woven w (λ i. i) n < w
   place-lt = by-parity (λ n. n < w → woven w (λ i. i) n < w)
       (λ q h. rw (woven-even w q (λ i. i)) (omega arith))
@@ -32,12 +32,12 @@ module _ (w : ℕ) (even : w % 2 ≡ 0) where
   pub source-place : (n : ℕ) → n < w → source w (woven w (λ i. i) n) ≡ n
   source-place = by-parity (λ n. n < w → source w (woven w (λ i. i) n) ≡ n)
       (λ q h. rw (woven-even w q (λ i. i)) (source-low w q (omega arith)))
-      (λ q h. rw (woven-odd w q (λ i. i)) (source-high w (w / 2 + q) (omega arith) ∙ omega arith))
+      (λ q h. rw (woven-odd w q (λ i. i)) (source-high w (lowSide w + q) (omega arith) ∙ omega arith))
 
   pub place-source : (n : ℕ) → n < w → woven w (λ i. i) (source w n) ≡ n
-  place-source n h = by-lt n (w / 2)
+  place-source n h = by-lt n (lowSide w)
       (λ lt. rw (source-low w n lt) (woven-even w n (λ i. i)))
-      (λ ge. rw (source-high w n ge) (woven-odd w (n - w / 2) (λ i. i) ∙ omega arith))
+      (λ ge. rw (source-high w n ge) (woven-odd w (n - lowSide w) (λ i. i) ∙ omega arith))
 
   -- either kind of cell
   pub place-even : (n : ℕ) → n % 2 ≡ 0 → n / 2 ≡ woven w (λ i. i) n
@@ -45,11 +45,11 @@ module _ (w : ℕ) (even : w % 2 ≡ 0) where
 
   pub place-odd : (n : ℕ) → n % 2 ≡ 1 → w - w / 2 + n / 2 ≡ woven w (λ i. i) n
   place-odd n h =
-      let e : 2 * (n / 2) + 1 ≡ n = omega arith in let d : w - w / 2 + n / 2 ≡ w / 2 + n / 2 = omega arith in
+      let e : 2 * (n / 2) + 1 ≡ n = omega arith in let d : w - w / 2 + n / 2 ≡ lowSide w + n / 2 = omega arith in
       d ∙ sym (woven-odd w (n / 2) (λ i. i)) ∙ ap (woven w (λ i. i)) e
 
--- ---- row y + k of a rectangle x, y, w, .. in a picture of W by H; its evens are of columns (x + 1) / 2 .., its odds of W / 2 + x / 2 ..
-module _ (x y w W H : ℕ) (even-w : W % 2 ≡ 0) (even-h : H % 2 ≡ 0) (fit : x + w ≤ W) (k : ℕ) (low : y + k < H) where
+-- ---- row y + k of a rectangle x, y, w, .. in a picture of W by H; its evens are of columns (x + 1) / 2 .., its odds of lowSide W + x / 2 ..
+module _ (x y w W H : ℕ) (fit : x + w ≤ W) (k : ℕ) (low : y + k < H) where
   abbrev row : ℕ
   row = woven H (λ i. i) (y + k)
 
@@ -68,7 +68,7 @@ module _ (x y w W H : ℕ) (even-w : W % 2 ≡ 0) (even-h : H % 2 ≡ 0) (fit : 
 
   in-box : (i c : ℕ) → i / W ≡ row → source W (i % W) ≡ c → x ≤ c → c < x + w → InRow (k + 1) i
   in-box i c q s lo hi =
-      let r : source H (i / W) ≡ y + k = ap (source H) q ∙ source-place H even-h (y + k) low in
+      let r : source H (i / W) ≡ y + k = ap (source H) q ∙ source-place H (y + k) low in
       box-intro x y w (k + 1) (source W (i % W)) (source H (i / W)) (within-intro x w (source W (i % W)) (omega arith) (omega arith)) (omega arith) (omega arith)
 
   evens-in : (i : ℕ) → evens i ≡ true → InRow (k + 1) i
@@ -83,7 +83,7 @@ module _ (x y w W H : ℕ) (even-w : W % 2 ≡ 0) (even-h : H % 2 ≡ 0) (fit : 
       let p = within-elim (row * W + (W - W / 2) + x / 2) ((x + w) / 2 - x / 2) i e in
       let d : ℕ = i - row * W in
       let o = place-of i d (omega arith) (omega arith) in
-      in-box i (2 * (d - W / 2) + 1) (o .0) (ap (source W) (o .1) ∙ source-high W d (omega arith)) (omega arith) (omega arith)
+      in-box i (2 * (d - lowSide W) + 1) (o .0) (ap (source W) (o .1) ∙ source-high W d (omega arith)) (omega arith) (omega arith)
 
   -- a place of the row is in one of the two runs
   in-runs : (i : ℕ) → i < H * W → InRow (k + 1) i → y + k ≤ source H (i / W) → (odds i || evens i) ≡ true
@@ -92,11 +92,11 @@ module _ (x y w W H : ℕ) (even-w : W % 2 ≡ 0) (even-h : H % 2 ≡ 0) (fit : 
       let p = box-elim x y w (k + 1) (source W (i % W)) (source H (i / W)) e in
       let q = within-elim x w (source W (i % W)) (p .0) in
       let s : source H (i / W) ≡ y + k = omega arith in
-      let r : i / W ≡ woven H (λ i. i) (y + k) = sym (place-source H even-h (i / W) (div-lt-iff-lt-mul some .1 lt)) ∙ ap (woven H (λ i. i)) s in
+      let r : i / W ≡ woven H (λ i. i) (y + k) = sym (place-source H (i / W) (div-lt-iff-lt-mul some .1 lt)) ∙ ap (woven H (λ i. i)) s in
       let m : i / W * W ≡ woven H (λ i. i) (y + k) * W = ap (λ z. z * W) r in
       let t = div-add-mod' i W in
       let b = mod-lt i some in
-      by-lt (i % W) (W / 2)
+      by-lt (i % W) (lowSide W)
       (λ near. let c = source-low W (i % W) near in or-right (odds i) _ (within-intro _ _ i (omega arith) (omega arith)))
       (λ far. let c = source-high W (i % W) far in or-left _ _ (within-intro _ _ i (omega arith) (omega arith)))
 
@@ -111,12 +111,12 @@ module _ (x y w W H : ℕ) (even-w : W % 2 ≡ 0) (even-h : H % 2 ≡ 0) (fit : 
       (λ ge. or-left _ _ (in-runs i lt e ge)))
 
 -- ---- a rectangle, row by row
-module _ (x y w W H : ℕ) (even-w : W % 2 ≡ 0) (even-h : H % 2 ≡ 0) where
+module _ (x y w W H : ℕ) where
   -- whether place i is in the first k rows
   box-placed : (k i : ℕ) → i < H * W → placed W H (λ r c. inBox x y w k c r) (i / W) (i % W) ≡ inBox x y w k (source W (i % W)) (source H (i / W))
   box-placed k i h =
       let some : 0 < W = factor-pos H W (omega arith) in
-      placed-cell W H (λ r c. inBox x y w k c r) even-w even-h (i / W) (i % W) (div-lt-iff-lt-mul some .1 h) (mod-lt i some)
+      placed-cell W H (λ r c. inBox x y w k c r) (i / W) (i % W) (div-lt-iff-lt-mul some .1 h) (mod-lt i some)
 
   pub placed-none : (l : List ℕ) → DrawnPlaced x y w 0 W H l l
   placed-none l = record {
@@ -138,7 +138,7 @@ module _ (x y w W H : ℕ) (even-w : W % 2 ≡ 0) (even-h : H % 2 ≡ 0) where
             g .cell i ∙ ap (choose (odds i) 1) (f .cell i) ∙ twice (odds i) (evens i) 1 (getD l₁ i 0)
             ∙ ap (choose (odds i || evens i) 1) (p .cell i h ∙ ap (λ q. choose q 1 (getD l i 0)) (box-placed k i h))
             ∙ twice (odds i || evens i) b 1 (getD l i 0)
-            ∙ ap (λ q. choose q 1 (getD l i 0)) (row-placed x y w W H even-w even-h fit k low i h ∙ sym (box-placed (k + 1) i h));
+            ∙ ap (λ q. choose q 1 (getD l i 0)) (row-placed x y w W H fit k low i h ∙ sym (box-placed (k + 1) i h));
       }
 
   pub placed-box : {l l′ : List ℕ} {k : ℕ} → DrawnPlaced x y w k W H l l′ → (i : ℕ) → i < H * W
@@ -154,15 +154,13 @@ module _ {l : List ℕ} {W H : ℕ} where
     cell = λ i h.
         let some : 0 < W = factor-pos H W (omega (arith, z .full)) in
         p .cell i h
-        ∙ ap byteOf (sym (placed-cell W H (λ r c. inRegion l c r) (z .even-w) (z .even-h) (i / W) (i % W) (div-lt-iff-lt-mul some .1 (omega (arith, z .full))) (mod-lt i some)));
+        ∙ ap byteOf (sym (placed-cell W H (λ r c. inRegion l c r) (i / W) (i % W) (div-lt-iff-lt-mul some .1 (omega (arith, z .full))) (mod-lt i some)));
   }
 
   -- the rectangles of an accepted call are framed
-  pub rectangles-framed : {n : ℕ} → badRectangles W H l ≡ false → W % 2 ≡ 0 → H % 2 ≡ 0 → n ≡ H * W → Framed l W H n
-  rectangles-framed e p q full = record {
+  pub rectangles-framed : {n : ℕ} → badRectangles W H l ≡ false → n ≡ H * W → Framed l W H n
+  rectangles-framed e full = record {
     right = λ r h. each-inside W H l e r h .0;
     bottom = λ r h. each-inside W H l e r h .1;
-    even-w = p;
-    even-h = q;
     full = full;
   }

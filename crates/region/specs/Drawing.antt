@@ -6,7 +6,7 @@
 --   Inside l W n                 == each rectangle of the numbers l is inside rows of W, and inside n places
 --   placedByte l W H i           == the byte at place i of the region of the numbers l, placed
 --   DrawnPlaced x y w h W H l l′ == l′ is l with the byte 1 inside the rectangle, placed
---   Framed l W H n               == each rectangle of the numbers l is inside W by H, of even sides, and n places hold as many
+--   Framed l W H n               == each rectangle of the numbers l is inside W by H, and n places hold as many
 --
 -- Assumes nothing: these are definitions.
 use mathlib.Core.Path.{_≡_}
@@ -45,6 +45,4 @@ pub record DrawnPlaced (x y w h W H : ℕ) (l l′ : List ℕ) : Type 0 where
 pub record Framed (l : List ℕ) (W H n : ℕ) : Type 0 where
   pub right : (r : ℕ) → r < length l / 4 → getD l (4 * r) 0 + getD l (4 * r + 2) 0 ≤ W
   pub bottom : (r : ℕ) → r < length l / 4 → getD l (4 * r + 1) 0 + getD l (4 * r + 3) 0 ≤ H
-  pub even-w : W % 2 ≡ 0
-  pub even-h : H % 2 ≡ 0
   pub full : n ≡ H * W

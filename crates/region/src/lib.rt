@@ -114,7 +114,7 @@ fn rectangle(region: &mut [u8], w: usize, x: u32, y: u32, across: u32, down: u32
 
 // Where cell n of a line of `side` cells ends, its evens in front and its odds behind.
 fn place(n: usize, side: usize) -> usize
-    requires { ⌜ (side % 2 ≡ 0) × (n < side) ⌝ }
+    requires { ⌜ n < side ⌝ }
     ensures { λ r. ⌜ r ≡ woven side (λ i. i) n ⌝ }
 {
     if n % 2 == 0 {
@@ -127,7 +127,7 @@ fn place(n: usize, side: usize) -> usize
 // Sets the samples of a rectangle, each where its coefficient of the first level ends: of each row a run of evens and a run of odds.
 fn rectangle_placed(region: &mut [u8], w: usize, h: usize, x: u32, y: u32, across: u32, down: u32)
     requires { ⌜ (x + across ≤ w) × (y + down ≤ h) ⌝ }
-    requires { ⌜ (w % 2 ≡ 0) × (h % 2 ≡ 0) × (length (now region) ≡ h * w) ⌝ }
+    requires { ⌜ length (now region) ≡ h * w ⌝ }
     ensures { λ _. ⌜ DrawnPlaced x y across down w h (now (region .entry)) (now (region .exit)) ⌝ }
 {
     let left = x as usize;

@@ -23,7 +23,6 @@ use Rattle.region.specs.Drawing.{placedByte, Framed}
 use Rattle.region.proofs.Painted.{outside-none}
 use Rattle.region.proofs.Placed.{rectangles-framed}
 use Rattle.picture_mask.specs.Areas.{Region, bytes, maskOn}
-use Rattle.picture_mask.proofs.Entry.{sides-even}
 use Rattle.shot.specs.Inner.{Drawable}
 use Rattle.shot.specs.Shots.{drawn, maskBytes}
 
@@ -43,11 +42,8 @@ module _ (k : Kernel) (J W H : ℕ) (l : List ℕ) where
 
 -- ---- the mask that a buffer then holds: the region is drawn there, placed
 module _ (J W H : ℕ) (l m₀ : List ℕ) (d : Drawable J W H l (length m₀)) where
-  even : (W % 2 ≡ 0) × (H % 2 ≡ 0) × (W ≤ 4096) × (H ≤ 4096)
-  even = sides-even J W H (d .levels) (d .size)
-
   pub drawable-framed : Framed l W H (length m₀)
-  drawable-framed = rectangles-framed (d .inside) (even .0) (even .1) (d .full ∙ mul-comm W H)
+  drawable-framed = rectangles-framed (d .inside) (d .full ∙ mul-comm W H)
 
   module _ (m : List ℕ) (r : Result 0 true (placedByte l W H) m₀ m) where
     full : length m ≡ W * H
@@ -70,7 +66,7 @@ module _ (J W H : ℕ) (l m₀ : List ℕ) (d : Drawable J W H l (length m₀)) 
     drawn-inside y x i j =
         let h : y * W + x < length m₀ = omega (arith, d .full, mul-comm W H, digits-lt i j) in
         cell 0 W m y x j ∙ r .cell (y * W + x) h ∙ rw (digits-div y j, digits-mod y j)
-        (ap byteOf (placed-cell W H (drawn l) (even .0) (even .1) y x i j) ∙ sym (placed-cell W H (bytes (drawn l)) (even .0) (even .1) y x i j))
+        (ap byteOf (placed-cell W H (drawn l) y x i j) ∙ sym (placed-cell W H (bytes (drawn l)) y x i j))
 
     nothing : (y x : ℕ) → (x < W → y < H → ⊥) → bytes (drawn l) y x ≡ 0
     nothing y x out = ap byteOf (outside-none W H l (d .inside) x y out)
@@ -81,8 +77,8 @@ module _ (J W H : ℕ) (l m₀ : List ℕ) (d : Drawable J W H l (length m₀)) 
         (λ lt. by-lt y H
         (λ i. drawn-inside y x i lt)
         (λ ge. let g : length m ≤ y * W + x = omega (arith, full, mul-comm W H, mul-le-mul-right W ge) in
-        rw (lt-ltb x W lt, List·getD-eq-default m 0 g) (sym (placed-below W H (bytes (drawn l)) (even .0) (even .1) y x ge ∙ nothing y x (λ a b. omega arith)))))
-        (λ ge. rw (le-ltb x W ge) (sym (placed-right W H (bytes (drawn l)) (even .0) (even .1) y x ge ∙ nothing y x (λ a b. omega arith))))
+        rw (lt-ltb x W lt, List·getD-eq-default m 0 g) (sym (placed-below W H (bytes (drawn l)) y x ge ∙ nothing y x (λ a b. omega arith)))))
+        (λ ge. rw (le-ltb x W ge) (sym (placed-right W H (bytes (drawn l)) y x ge ∙ nothing y x (λ a b. omega arith))))
 
     pub mask-bytes : (k : Kernel) (m′ : List ℕ) → ((B : Picture Bool) → picture 0 W m ≡ placed W H (bytes B) → Result 0 true (maskOn k J W H B) m m′)
         → m′ ≡ maskBytes k J W H l

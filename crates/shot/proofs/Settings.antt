@@ -7,7 +7,7 @@ use Rattle.kernel.specs.declared.Kernel.{Kernel}
 use Rattle.kernel.specs.Kernels.{theKernel}
 use Rattle.line.specs.Cells.{choose}
 use Rattle.refusal.specs.Numbers.{refusalNumber, first}
-use Rattle.refusal.specs.Tests.{badKernel, badLevels, badDepth, badSizeAt}
+use Rattle.refusal.specs.Tests.{badKernel, badLevels, badDepth, badSize}
 use Rattle.refusal.specs.declared.Refusal.{Refusal}
 use Rattle.shot.specs.declared.Setting.{Setting}
 use Rattle.shot.specs.declared.Setting.the-variants.{Taken, Refused}
@@ -32,7 +32,7 @@ module _ (k J D W H : ℕ) where
   -- a setting's refusals are 1 to 4
   pub setting-most : first (settingTests k J D W H) ≤ 4
   unfolding first
-  setting-most = four-most (badKernel k) (badLevels J) (badDepth D) (badSizeAt J W H)
+  setting-most = four-most (badKernel k) (badLevels J) (badDepth D) (badSize W H)
 
   pub set-refused : (r : Refusal) → refusalNumber r ≡ first (settingTests k J D W H) → Set k J D W H (Refused r)
   set-refused r e = record { number = e; kernel = λ chosen p. absurd (never p) }

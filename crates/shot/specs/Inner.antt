@@ -12,7 +12,7 @@ use Prim.Native.Nat.{ℕ, _*_, _<_}
 use Rattle.kernel.specs.declared.Kernel.{Kernel}
 use Rattle.kernel.specs.Kernels.{theKernel}
 use Rattle.refusal.specs.Numbers.{refusalNumber, first}
-use Rattle.refusal.specs.Tests.{badSizeAt, badRectangles}
+use Rattle.refusal.specs.Tests.{badSize, badRectangles}
 use Rattle.shot.specs.declared.Setting.{Setting}
 use Rattle.shot.specs.declared.Setting.the-variants.{Taken, Refused}
 use Rattle.shot.specs.Shots.{settingTests}
@@ -27,6 +27,6 @@ pub record Set (k J D W H : ℕ) (r : Setting) : Type 0 where
 
 pub record Drawable (J W H : ℕ) (l : List ℕ) (n : ℕ) : Type 0 where
   pub levels : 0 < J
-  pub size : badSizeAt J W H ≡ false
+  pub size : badSize W H ≡ false
   pub inside : badRectangles W H l ≡ false
   pub full : n ≡ W * H

@@ -19,7 +19,7 @@ use Rattle.grid.specs.Picture.{Picture}
 use Rattle.plane.specs.Plane.{maskOf}
 use Rattle.bitplane.specs.Body.{class}
 use Rattle.refusal.specs.Numbers.{Test, test}
-use Rattle.refusal.specs.Tests.{badKernel, badLevels, badDepth, badSizeAt, badNumbers, badRectangles}
+use Rattle.refusal.specs.Tests.{badKernel, badLevels, badDepth, badSize, badNumbers, badRectangles}
 use Rattle.region.specs.Region.{inRegion}
 use Rattle.header.specs.Fields.{Shot}
 
@@ -36,7 +36,7 @@ abbrev pub marks : Shot → ℕ
 marks s = count (s .width * s .height) (class (shotMask s) 1)
 
 abbrev pub settingTests : ℕ → ℕ → ℕ → ℕ → ℕ → List Test
-settingTests k J D W H = test (badKernel k) 1 ∷ test (badLevels J) 2 ∷ test (badDepth D) 3 ∷ test (badSizeAt J W H) 4 ∷ []
+settingTests k J D W H = test (badKernel k) 1 ∷ test (badLevels J) 2 ∷ test (badDepth D) 3 ∷ test (badSize W H) 4 ∷ []
 
 abbrev pub rectangleTests : ℕ → ℕ → List ℕ → List Test
 rectangleTests W H l = test (badNumbers l) 7 ∷ test (badRectangles W H l) 8 ∷ []

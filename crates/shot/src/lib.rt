@@ -26,7 +26,7 @@ pub fn take_setting(kernel: usize, levels: usize, depth: usize, w: usize, h: usi
     if refusal::bad_depth(depth) {
         return Setting::Refused(Refusal::Depth);
     }
-    if refusal::bad_size_at(levels, w, h) {
+    if refusal::bad_size(w, h) {
         return Setting::Refused(Refusal::Size);
     }
     Setting::Taken(chosen)

@@ -16,10 +16,9 @@ use borrow.Author.Tests.{eqb-true, not-false}
 use Rattle.line.specs.Cells.{choose, listed}
 use Rattle.line.proofs.Lists.{is-listed}
 use Rattle.refusal.specs.Numbers.{Test, first, accepted}
-use Rattle.refusal.specs.Tests.{badKernel, badLevels, badDepth, badSize, badSizeAt, badLength, badMagnitude}
+use Rattle.refusal.specs.Tests.{badKernel, badLevels, badDepth, badSize, badLength, badMagnitude}
 use Rattle.refusal.specs.Results.{Result}
 use Rattle.refusal.proofs.Ordered.{none, next, passes-test, numbered, accepted-both}
-use Rattle.refusal.proofs.Passed.{neither}
 use Rattle.wavelet.specs.Wavelet.{undoneNumber, undoTests}
 use Rattle.samples.specs.Samples.{inRange, showTests}
 use Rattle.header.specs.Header.{bodyTests}
@@ -44,7 +43,6 @@ record Passed (s : Shot) (n : ℕ) : Type 0 where
   pub kernel : badKernel (s .kernel) ≡ false
   pub levels : badLevels (s .levels) ≡ false
   pub depth : badDepth (s .depth) ≡ false
-  pub size-at : badSizeAt (s .levels) (s .width) (s .height) ≡ false
   pub size : badSize (s .width) (s .height) ≡ false
   pub full : badLength (s .width) (s .height) n ≡ false
 
@@ -58,13 +56,12 @@ passed l n ok =
     let k = passes-test (badKernel (s .kernel)) 0 _ (b .0) in
     let j = passes-test (badLevels (s .levels)) 1 _ (k .1) in
     let d = passes-test (badDepth (s .depth)) 2 _ (j .1) in
-    let z = passes-test (badSizeAt (s .levels) (s .width) (s .height)) 3 _ (d .1) .0 in
+    let z = passes-test (badSize (s .width) (s .height)) 3 _ (d .1) .0 in
     record {
       kernel = k .0;
       levels = j .0;
       depth = d .0;
-      size-at = z;
-      size = neither (badSize (s .width) (s .height)) _ (neither _ _ z .0) .0;
+      size = z;
       full = passes-test (badLength (s .width) (s .height) n) 4 _ (passes-test (badPlanes (s .planes)) 13 _ (c .1) .1) .0;
     }
 
@@ -74,7 +71,7 @@ all-pass ts e = rw (← e)
 undo-passes : {s : Shot} {n u : ℕ} (plane : List ℤ) → Passed s n → badMagnitude plane ≡ false → length plane ≡ n → u ≡ n
     → accepted (undoTests (s .kernel) (s .levels) (s .width) (s .height) plane u) ≡ true
 undo-passes {s} {n} {u} plane p small e f = rw (e, f) (all-pass _
-    (next _ _ _ _ (p .kernel) (next _ _ _ _ (p .levels) (next _ _ _ _ (p .size-at) (next _ _ _ _ (p .full) (next _ _ _ _ (p .full) (next _ _ _ _ small none)))))))
+    (next _ _ _ _ (p .kernel) (next _ _ _ _ (p .levels) (next _ _ _ _ (p .size) (next _ _ _ _ (p .full) (next _ _ _ _ (p .full) (next _ _ _ _ small none)))))))
 
 show-passes : {s : Shot} {n u m : ℕ} → Passed s n → u ≡ n → m ≡ n → accepted (showTests (s .depth) (s .width) (s .height) u m) ≡ true
 show-passes p e f = rw (e, f) (all-pass _ (next _ _ _ _ (p .depth) (next _ _ _ _ (p .size) (next _ _ _ _ (p .full) (next _ _ _ _ (p .full) none)))))

@@ -21,6 +21,11 @@ pub record Moving {A : Type 0} (o : A) (x : List A) (f g : ℕ → ℕ) (m c : �
   pub count : n ≤ m
   pub so-far : Moved o x f g n c l l′
 
+-- ---- rows that have cells begin inside
+pub some-rows : {A : Type 0} {x : List A} {f g : ℕ → ℕ} {m c : ℕ} {l : List A} → 0 < c → ((n : ℕ) → n < m → Room x (f n) (g n) c l)
+    → ((r n j : ℕ) → r < n → j < c → g r + j < g n) → Rows x f g m c l
+some-rows some room apart = record { begins = λ n h. let r = room n h in omega (arith, r .source 0 some, r .target 0 some); room = room; apart = apart }
+
 -- ---- row by row
 module _ {A : Type 0} {o : A} {x : List A} {f g : ℕ → ℕ} {m c : ℕ} {l : List A} where
   pub moving-none : Rows x f g m c l → Moving o x f g m c l l 0
@@ -30,8 +35,8 @@ module _ {A : Type 0} {o : A} {x : List A} {f g : ℕ → ℕ} {m c : ℕ} {l : 
     pub moving-room : n < m → Room x (f n) (g n) c l′
     moving-room h = let r = p .rows .room n h in record { source = r .source; target = λ j q. omega (arith, r .target j q, p .so-far .size) }
 
-    pub moving-next : n < m → (f n < length x) × (g n < length l′)
-    moving-next h = let r = moving-room h in omega (arith, r .source 0 (p .rows .some), r .target 0 (p .rows .some))
+    pub moving-next : n < m → (f n ≤ length x) × (g n ≤ length l′)
+    moving-next h = omega (arith, p .rows .begins n h, p .so-far .size)
 
     pub moving-row : {l″ : List A} → n < m → Copied o x (f n) (g n) c l′ l″ → Moving o x f g m c l l″ (n + 1)
     moving-row {l″} h q = record {
@@ -55,11 +60,9 @@ module _ {A : Type 0} {o : A} {x : List A} {f g : ℕ → ℕ} {m c : ℕ} {l : 
 -- ---- strips
 module _ {A : Type 0} {l : List A} {s t m c : ℕ} (w : InBuffer l s t m c) {x : List A} (h : m * c ≤ length x) where
   pub rows-put : Rows x (λ n. n * c) (λ n. s + n * t) m c l
-  rows-put = record {
-    some = w .some;
-    room = λ n p. record { source = λ j q. omega (arith, digits-lt p q); target = λ j q. w .place n j p q };
-    apart = λ r n j p q. omega (arith, digits-lt p (le-trans q (w .apart)));
-  }
+  rows-put = some-rows (w .some)
+      (λ n p. record { source = λ j q. omega (arith, digits-lt p q); target = λ j q. w .place n j p q })
+      (λ r n j p q. omega (arith, digits-lt p (le-trans q (w .apart))))
 
 module _ {A : Type 0} {o : A} {s t m c : ℕ} {l x y : List A} where
   pub put : Moved o x (λ n. n * c) (λ n. s + n * t) m c l y → Put o x s t m c l y

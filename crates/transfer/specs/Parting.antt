@@ -2,7 +2,7 @@
 --
 --   sourceAt m n                  == which cell of a line comes to place n, where m cells, the evens, stand in front
 --   Written F at n l l′           == l′ is l with F 0 .. F (n − 1) from place `at` on
---   Paired from n x y             == the numbers of two bytes y are n pairs of bytes of x, those from `from` on
+--   Paired from p q x y           == the numbers of two bytes y are pairs of bytes of x, from `from` on: p bytes that are first in a pair, q that are second
 --   PartedCopy o x from at w l l′ == l′ is l with w cells of x, those from `from` on, parted, from place `at` on
 --   PartedStrip o l s t w c x x′  == x′ is the strip x with c lines of w cells of l, each parted, cell n of line j at n · c + j;
 --                                    the lines begin at s, s + 1, .., and their cells are t apart
@@ -26,9 +26,9 @@ pub record Written (F : ℕ → ℕ) (at n : ℕ) (l l′ : List ℕ) : Type 0 w
   pub below : (i : ℕ) → i < at → getD l′ i 0 ≡ getD l i 0
   pub above : (i : ℕ) → at + n ≤ i → getD l′ i 0 ≡ getD l i 0
 
-pub record Paired (from n : ℕ) (x y : List ℕ) : Type 0 where
-  pub first : (k : ℕ) → k < n → getD y k 0 % 256 ≡ getD x (from + 2 * k) 0
-  pub second : (k : ℕ) → k < n → getD y k 0 / 256 ≡ getD x (from + 2 * k + 1) 0
+pub record Paired (from p q : ℕ) (x y : List ℕ) : Type 0 where
+  pub first : (k : ℕ) → k < p → getD y k 0 % 256 ≡ getD x (from + 2 * k) 0
+  pub second : (k : ℕ) → k < q → getD y k 0 / 256 ≡ getD x (from + 2 * k + 1) 0
 
 pub record PartedCopy {A : Type 0} (o : A) (x : List A) (from at w : ℕ) (l l′ : List A) : Type 0 where
   pub size : length l′ ≡ length l

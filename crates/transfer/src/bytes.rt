@@ -1,7 +1,8 @@
 // Bytes that are copied: runs, rows with their evens in front and their odds behind, pictures of such rows, and strips of columns.
 ghost use mathlib.Core.Path.{_≡_};
-ghost use Prim.Native.Nat.{_+_, _*_, _/_, _%_, _<_, _≤_};
+ghost use Prim.Native.Nat.{_+_, _*_, _/_, _%_, _≤_};
 ghost use lib.ListN.{length, getD};
+ghost use Rattle.line.specs.Cells.{lowSide};
 ghost use Rattle.grid.specs.Picture.{picture};
 ghost use Rattle.grid.specs.Buffer.{InBuffer, Put};
 ghost use Rattle.grid.specs.Placed.{placed};
@@ -18,13 +19,18 @@ pub fn copy(src: &[u8], dst: &mut [u8], from: usize, at: usize, n: usize)
     }
 }
 
-// Takes n pairs of bytes, from `from` on, as numbers of two bytes: a pair is then one number to the machine, and bytes two apart are not.
-fn pair_up(src: &[u8], line: &mut [u16], from: usize, n: usize)
-    requires { ⌜ (from + 2 * n ≤ length (now src)) × (n ≤ length (now line)) ⌝ }
-    ensures { λ _. ⌜ Paired from n (now (src .entry)) (now (line .exit)) ⌝ }
+// Takes w bytes, from `from` on, as numbers of two bytes: a pair is then one number to the machine, and bytes two apart are not. The byte that is left
+// over, where w is odd, is the first of a pair without a second.
+fn pair_up(src: &[u8], line: &mut [u16], from: usize, w: usize)
+    requires { ⌜ (from + w ≤ length (now src)) × (lowSide w ≤ length (now line)) ⌝ }
+    ensures { λ _. ⌜ Paired from (lowSide w) (w / 2) (now (src .entry)) (now (line .exit)) ⌝ }
 {
+    let n = w / 2;
     for k in 0..n {
         line[k] = src[from + 2 * k] as u16 + 256 * (src[from + 2 * k + 1] as u16);
+    }
+    if w % 2 == 1 {
+        line[n] = src[from + 2 * n] as u16;
     }
 }
 
@@ -51,23 +57,24 @@ fn seconds(line: &[u16], dst: &mut [u8], at: usize, n: usize)
 // Copies a row of w bytes, its evens to the front and its odds behind them.
 fn part(src: &[u8], dst: &mut [u8], line: &mut [u16], from: usize, at: usize, w: usize)
     requires { ⌜ (from + w ≤ length (now src)) × (at + w ≤ length (now dst)) ⌝ }
-    requires { ⌜ (w % 2 ≡ 0) × (w / 2 ≤ length (now line)) ⌝ }
+    requires { ⌜ lowSide w ≤ length (now line) ⌝ }
     ensures { λ _. ⌜ PartedCopy 0 (now (src .entry)) from at w (now (dst .entry)) (now (dst .exit)) ⌝ }
 {
-    pair_up(src, line, from, w / 2);
-    firsts(line, dst, at, w / 2);
-    seconds(line, dst, at + (w - w / 2), w / 2);
+    let low = w - w / 2;
+    pair_up(src, line, from, w);
+    firsts(line, dst, at, low);
+    seconds(line, dst, at + low, w / 2);
 }
 
 // The same in place.
 pub fn part_row(buf: &mut [u8], line: &mut [u16], at: usize, w: usize)
-    requires { ⌜ at + w ≤ length (now buf) ⌝ }
-    requires { ⌜ (w % 2 ≡ 0) × (w / 2 ≤ length (now line)) ⌝ }
+    requires { ⌜ (at + w ≤ length (now buf)) × (lowSide w ≤ length (now line)) ⌝ }
     ensures { λ _. ⌜ PartedCopy 0 (now (buf .entry)) at at w (now (buf .entry)) (now (buf .exit)) ⌝ }
 {
-    pair_up(buf, line, at, w / 2);
-    firsts(line, buf, at, w / 2);
-    seconds(line, buf, at + (w - w / 2), w / 2);
+    let low = w - w / 2;
+    pair_up(buf, line, at, w);
+    firsts(line, buf, at, low);
+    seconds(line, buf, at + low, w / 2);
 }
 
 // Which row comes to place n, where `low` rows, the evens, stand in front.
@@ -80,7 +87,7 @@ fn source(n: usize, low: usize) -> usize
 
 // Copies a picture of w by h bytes, each byte to the place where its coefficient of the first level ends.
 pub fn place(src: &[u8], dst: &mut [u8], w: usize, h: usize)
-    requires { ⌜ (w % 2 ≡ 0) × (h % 2 ≡ 0) × (w ≤ 4096) × (h ≤ 4096) ⌝ }
+    requires { ⌜ (w ≤ 4096) × (h ≤ 4096) ⌝ }
     requires { ⌜ (length (now src) ≡ h * w) × (length (now dst) ≡ h * w) ⌝ }
     ensures { λ _. ⌜ picture 0 w (now (dst .exit)) ≡ placed w h (picture 0 w (now (src .entry))) ⌝ }
 {
@@ -95,7 +102,7 @@ pub fn place(src: &[u8], dst: &mut [u8], w: usize, h: usize)
 // front, the odds behind.
 pub fn take(buf: &[u8], strip: &mut [u8], start: usize, step: usize, w: usize, lanes: usize)
     requires { ⌜ InBuffer (now buf) start step w lanes ⌝ }
-    requires { ⌜ (w % 2 ≡ 0) × (w ≤ 4096) × (w * lanes ≤ length (now strip)) ⌝ }
+    requires { ⌜ (w ≤ 4096) × (w * lanes ≤ length (now strip)) ⌝ }
     ensures { λ _. ⌜ PartedStrip 0 (now (buf .entry)) start step w lanes (now (strip .entry)) (now (strip .exit)) ⌝ }
 {
     let low = w - w / 2;

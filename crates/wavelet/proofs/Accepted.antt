@@ -11,11 +11,10 @@ use lib.ListN.{length}
 use lib.Pow.{pow-mono}
 use Rattle.whole.specs.Within.{Within}
 use Rattle.kernel.specs.Kernels.{theKernel}
-use Rattle.grid.proofs.Levels.{halves-of}
 use Rattle.plane.proofs.Bounds.{transform-accepted}
 use Rattle.refusal.specs.Numbers.{accepted}
 use Rattle.refusal.proofs.Ordered.{passes-test}
-use Rattle.refusal.proofs.Passed.{inside, multiples, samples}
+use Rattle.refusal.proofs.Passed.{inside, sides, samples}
 use Rattle.wavelet.specs.Wavelet.{samplesOf, coefficient, transformTests}
 use Rattle.wavelet.proofs.Entries.{samples-below}
 
@@ -32,10 +31,10 @@ plane-accepted k J D W H s n ok i h =
     let t₅ = passes-test _ 4 _ (t₄ .1) in
     let t₆ = passes-test _ 4 _ (t₅ .1) in
     let t₇ = passes-test _ 5 _ (t₆ .1) in
-    let m = multiples J W H (t₄ .0) in
+    let m = sides W H (t₄ .0) in
     let full : length s ≡ W * H = eqb-true (length s) (W * H) (not-false _ (t₅ .0)) in
     let all = samples-below W H D s full (samples D s (t₇ .0)) (pow-mono {j = 10} (inside 1 10 D (t₃ .0) .1)) in
-    let some = m .0 .width .0 in
+    let some = m .width .0 in
     within-abs (coefficient k J W H s i)
-    (transform-accepted (theKernel k) J W H (samplesOf W s) (halves-of J W H (m .1) (m .2)) (inside 1 5 J (t₂ .0) .1) all .each (i / W) (i % W)
+    (transform-accepted (theKernel k) J W H (samplesOf W s) (inside 1 5 J (t₂ .0) .1) all .each (i / W) (i % W)
     (div-lt-iff-lt-mul some .1 (omega (arith, mul-comm W H))) (mod-lt i some))

@@ -3,7 +3,7 @@ use mathlib.Core.Path.{_≡_, sym, ap, subst, _∙_}
 use mathlib.Core.Bool.{true}
 use mathlib.Core.List.{List}
 use Prim.Native.Nat.{ℕ, zero, suc, _+_, _*_, _-_, _/_, _%_, _^_, _<_, _≤_}
-use native.Mathlib.Nat.{mul-comm, mod-lt, div-lt-iff-lt-mul}
+use native.Mathlib.Nat.{add-mul, one-mul, mul-comm, mod-lt, div-lt-iff-lt-mul, mul-le-mul-right}
 use native.Mathlib.Omega.{arith}
 use lib.Arith.{digits-lt}
 use lib.IntN.{ℤ, pos, negsuc, natAbs}
@@ -36,17 +36,33 @@ filled W H l l′ P same size e = record {
 }
 
 -- ---- sizes and bounds
+few-levels : (n : ℕ) → n ≤ 5 → 2 ^ n ≤ 32
+few-levels zero h = omega arith
+few-levels (suc zero) h = omega arith
+few-levels (suc (suc zero)) h = omega arith
+few-levels (suc (suc (suc zero))) h = omega arith
+few-levels (suc (suc (suc (suc zero)))) h = omega arith
+few-levels (suc (suc (suc (suc (suc zero))))) h = omega arith
+few-levels (suc (suc (suc (suc (suc (suc n)))))) h = absurd (omega arith)
+
+last-row : (W H : ℕ) → 0 < H → (H - 1) * W + W ≡ H * W
+last-row W (suc n) h = let e : suc n - 1 ≡ n = omega arith in rw e (omega (arith, add-mul 1 n W, one-mul W, ap (λ (q : ℕ). q * W) (add-one n)))
+  where
+    add-one : (n : ℕ) → 1 + n ≡ suc n
+    add-one n = omega arith
+last-row W zero h = absurd (omega arith)
+
 module _ {J W H m n : ℕ} (z : Sized J W H m n) where
   levels-of : (size : ℕ) → size ≡ W * H → Levels W W H J size
   levels-of size e = record {
-    halves = z .halves;
     few = z .few;
     some-w = z .some-w;
     some-h = z .some-h;
     w-most = z .w-most;
     h-most = z .h-most;
     wide = omega arith;
-    fits = omega (arith, mul-comm W H, e);
+    narrow = omega (arith, mul-le-mul-right {m = 2 ^ J} {n = 32} W (few-levels J (z .few)), z .w-most);
+    fits = omega (arith, mul-comm W H, e, last-row W H (z .some-h));
   }
 
   pub sized-levels : {size : ℕ} → size ≡ n → Levels W W H J size

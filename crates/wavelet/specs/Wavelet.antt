@@ -16,7 +16,7 @@ use Rattle.kernel.specs.Kernels.{theKernel}
 use Rattle.grid.specs.Picture.{Picture, picture}
 use Rattle.plane.specs.Plane.{transformed, undone}
 use Rattle.refusal.specs.Numbers.{Test, test}
-use Rattle.refusal.specs.Tests.{badKernel, badLevels, badDepth, badSizeAt, badLength, badSample, badMagnitude}
+use Rattle.refusal.specs.Tests.{badKernel, badLevels, badDepth, badSize, badLength, badSample, badMagnitude}
 
 abbrev pub samplesOf : ℕ → List ℕ → Picture ℤ
 samplesOf W l y x = pos (picture 0 W l y x)
@@ -33,10 +33,10 @@ undoneNumber k J W H plane i = undone (theKernel k) J W H (coefficientsOf W plan
 -- n is the length of the plane's buffer
 abbrev pub transformTests : ℕ → ℕ → ℕ → ℕ → ℕ → List ℕ → ℕ → List Test
 transformTests k J D W H samples n =
-    test (badKernel k) 1 ∷ test (badLevels J) 2 ∷ test (badDepth D) 3 ∷ test (badSizeAt J W H) 4 ∷ test (badLength W H (length samples)) 5 ∷ test (badLength W H n) 5
+    test (badKernel k) 1 ∷ test (badLevels J) 2 ∷ test (badDepth D) 3 ∷ test (badSize W H) 4 ∷ test (badLength W H (length samples)) 5 ∷ test (badLength W H n) 5
     ∷ test (badSample D samples) 6 ∷ []
 
 -- n is the length of the undone numbers' buffer
 abbrev pub undoTests : ℕ → ℕ → ℕ → ℕ → List ℤ → ℕ → List Test
 undoTests k J W H plane n =
-    test (badKernel k) 1 ∷ test (badLevels J) 2 ∷ test (badSizeAt J W H) 4 ∷ test (badLength W H (length plane)) 5 ∷ test (badLength W H n) 5 ∷ test (badMagnitude plane) 10 ∷ []
+    test (badKernel k) 1 ∷ test (badLevels J) 2 ∷ test (badSize W H) 4 ∷ test (badLength W H (length plane)) 5 ∷ test (badLength W H n) 5 ∷ test (badMagnitude plane) 10 ∷ []

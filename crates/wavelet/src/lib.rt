@@ -5,7 +5,8 @@ ghost use lib.IntN.{pos};
 ghost use lib.ListN.{length};
 ghost use mathlib.Core.Bool.{true};
 ghost use Rattle.line.specs.Transform as line;
-ghost use Rattle.grid.specs.Picture.{colPass, lowSide, walk};
+ghost use Rattle.line.specs.Cells.{lowSide};
+ghost use Rattle.grid.specs.Picture.{colPass, walk};
 ghost use Rattle.plane.specs.Plane as planes;
 ghost use Rattle.plane.specs.Inner.{Below};
 ghost use Rattle.plane.specs.Plane.{transformed};
@@ -39,7 +40,7 @@ fn rows(
     }
 }
 
-// The column pass of a level, and then `rows` on the low quarter.
+// The column pass of a level, and then `rows` on the low part.
 fn cols(
     kernel: Kernel,
     l: &mut [i32],
@@ -56,7 +57,7 @@ fn cols(
     ensures { λ _. ⌜ coefficientsOf stride (now (l .exit)) ≡ walk (line.forward kernel) (levels - 1) (lowSide w) (lowSide h) (colPass (line.forward kernel) w h (coefficientsOf stride (now (l .entry)))) ⌝ }
 {
     passes::col_pass(kernel, l, q, stride, w, h);
-    rows(kernel, l, q, stride, w / 2, h / 2, levels - 1);
+    rows(kernel, l, q, stride, w - w / 2, h - h / 2, levels - 1);
 }
 
 // The first level stores each row of samples where it ends, and lifts its columns there as whole rows; the levels below have no second buffer.
@@ -74,7 +75,7 @@ fn transform_all(
 {
     passes::level_in(kernel, samples, plane, w, h);
     let mut q = [0i32; 32768];
-    rows(kernel, plane, &mut q, w, w / 2, h / 2, levels - 1);
+    rows(kernel, plane, &mut q, w, w - w / 2, h - h / 2, levels - 1);
 }
 
 // The plane of a picture of w by h samples of `depth` bits.
@@ -100,7 +101,7 @@ pub fn transform(
     if refusal::bad_depth(depth) {
         return Answer::Refused(Refusal::Depth);
     }
-    if refusal::bad_size_at(levels, w, h) {
+    if refusal::bad_size(w, h) {
         return Answer::Refused(Refusal::Size);
     }
     let count = w * h;
@@ -143,8 +144,8 @@ fn undo_levels(
             q,
             width,
             2 * stride,
-            w / 2,
-            h / 2,
+            w - w / 2,
+            h - h / 2,
             levels - 1,
         );
         passes::level_back(kernel, plane, l, q, width, stride, w, h);
@@ -181,7 +182,7 @@ pub fn undo(
     if refusal::bad_levels(levels) {
         return Answer::Refused(Refusal::Levels);
     }
-    if refusal::bad_size_at(levels, w, h) {
+    if refusal::bad_size(w, h) {
         return Answer::Refused(Refusal::Size);
     }
     let count = w * h;

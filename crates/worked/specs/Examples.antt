@@ -59,12 +59,29 @@ eightByFourPlane =
     ∷ pos 4 ∷ negℤ (pos 26) ∷ pos 58 ∷ negℤ (pos 6) ∷ pos 8 ∷ negℤ (pos 44) ∷ negℤ (pos 23) ∷ negℤ (pos 4)
     ∷ pos 12 ∷ negℤ (pos 65) ∷ negℤ (pos 97) ∷ negℤ (pos 25) ∷ pos 20 ∷ negℤ (pos 103) ∷ pos 18 ∷ pos 0 ∷ []
 
+-- lines of odd length: the last sample is unpaired
+abbrev tenSevenFortyNine : List ℤ
+tenSevenFortyNine = pos 10 ∷ pos 7 ∷ pos 49 ∷ []
+
+abbrev fiveSamples : List ℤ
+fiveSamples = pos 10 ∷ pos 7 ∷ pos 4 ∷ pos 4 ∷ pos 49 ∷ []
+
+abbrev threeByThree : List ℤ
+threeByThree = pos 10 ∷ pos 7 ∷ pos 49 ∷ pos 4 ∷ pos 4 ∷ pos 1 ∷ pos 20 ∷ pos 9 ∷ pos 30 ∷ []
+
 -- of 8 samples only sample 3 marked
 abbrev third : List ℕ
 third = 0 ∷ 0 ∷ 0 ∷ 1 ∷ 0 ∷ 0 ∷ 0 ∷ 0 ∷ []
 
+-- of 7 samples only sample 3 marked, and only the unpaired one
+abbrev thirdOfSeven : List ℕ
+thirdOfSeven = 0 ∷ 0 ∷ 0 ∷ 1 ∷ 0 ∷ 0 ∷ 0 ∷ []
+
+abbrev unpaired : List ℕ
+unpaired = 0 ∷ 0 ∷ 0 ∷ 0 ∷ 0 ∷ 0 ∷ 1 ∷ []
+
 unfoldable pub examples : List Example
-unfolding tenSevenFourFour twelve eightByFour eightByFourPlane third
+unfolding tenSevenFourFour twelve eightByFour eightByFourPlane third tenSevenFortyNine fiveSamples threeByThree thirdOfSeven unpaired
 examples =
     line S tenSevenFourFour (pos 8 ∷ pos 4 ∷ pos 3 ∷ pos 0 ∷ [])
     ∷ line SPlusP tenSevenFourFour (pos 8 ∷ pos 4 ∷ pos 2 ∷ negℤ (pos 1) ∷ [])
@@ -84,13 +101,35 @@ examples =
     ∷ line FiveThree twelve
     (pos 74 ∷ pos 714 ∷ pos 876 ∷ pos 512 ∷ pos 542 ∷ pos 658
     ∷ negℤ (pos 473) ∷ negℤ (pos 376) ∷ pos 292 ∷ pos 218 ∷ pos 218 ∷ negℤ (pos 767) ∷ [])
+    ∷ line S (negℤ (pos 7) ∷ []) (negℤ (pos 7) ∷ [])
+    ∷ line SPlusP (negℤ (pos 7) ∷ []) (negℤ (pos 7) ∷ [])
+    ∷ line TT (negℤ (pos 7) ∷ []) (negℤ (pos 7) ∷ [])
+    ∷ line FiveThree (negℤ (pos 7) ∷ []) (negℤ (pos 7) ∷ [])
+    ∷ line S tenSevenFortyNine (pos 8 ∷ pos 49 ∷ pos 3 ∷ [])
+    ∷ line SPlusP tenSevenFortyNine (pos 8 ∷ pos 49 ∷ pos 14 ∷ [])
+    ∷ line TT tenSevenFortyNine (pos 8 ∷ pos 49 ∷ pos 16 ∷ [])
+    ∷ line FiveThree tenSevenFortyNine (negℤ (pos 1) ∷ pos 38 ∷ negℤ (pos 22) ∷ [])
+    ∷ line S fiveSamples (pos 8 ∷ pos 4 ∷ pos 49 ∷ pos 3 ∷ pos 0 ∷ [])
+    ∷ line SPlusP fiveSamples (pos 8 ∷ pos 4 ∷ pos 49 ∷ pos 2 ∷ pos 11 ∷ [])
+    ∷ line TT fiveSamples (pos 8 ∷ pos 4 ∷ pos 49 ∷ pos 1 ∷ pos 13 ∷ [])
+    ∷ line FiveThree fiveSamples (pos 10 ∷ negℤ (pos 1) ∷ pos 38 ∷ pos 0 ∷ negℤ (pos 22) ∷ [])
     ∷ shot S 1 2 2 tenSevenFourFour (pos 6 ∷ pos 1 ∷ pos 4 ∷ pos 3 ∷ [])
     ∷ shot SPlusP 1 2 2 tenSevenFourFour (pos 6 ∷ pos 1 ∷ pos 4 ∷ pos 3 ∷ [])
     ∷ shot TT 1 2 2 tenSevenFourFour (pos 6 ∷ pos 2 ∷ pos 5 ∷ pos 4 ∷ [])
     ∷ shot FiveThree 1 2 2 tenSevenFourFour (pos 7 ∷ negℤ (pos 1) ∷ negℤ (pos 5) ∷ pos 3 ∷ [])
     ∷ shot FiveThree 2 8 4 eightByFour eightByFourPlane
+    ∷ shot S 2 3 3 threeByThree (pos 18 ∷ negℤ (pos 18) ∷ pos 1 ∷ negℤ (pos 7) ∷ negℤ (pos 3) ∷ pos 11 ∷ pos 4 ∷ pos 48 ∷ pos 3 ∷ [])
+    ∷ shot FiveThree 2 3 3 threeByThree (pos 11 ∷ pos 11 ∷ negℤ (pos 11) ∷ negℤ (pos 2) ∷ negℤ (pos 29) ∷ negℤ (pos 5) ∷ pos 0 ∷ negℤ (pos 28) ∷ pos 21 ∷ [])
     ∷ mask S third (0 ∷ 1 ∷ 0 ∷ 0 ∷ 0 ∷ 1 ∷ 0 ∷ 0 ∷ [])
     ∷ mask SPlusP third (1 ∷ 1 ∷ 1 ∷ 0 ∷ 0 ∷ 1 ∷ 0 ∷ 0 ∷ [])
     ∷ mask TT third (1 ∷ 1 ∷ 1 ∷ 1 ∷ 0 ∷ 1 ∷ 0 ∷ 0 ∷ [])
     ∷ mask FiveThree third (0 ∷ 1 ∷ 1 ∷ 0 ∷ 1 ∷ 1 ∷ 1 ∷ 0 ∷ [])
+    ∷ mask S thirdOfSeven (0 ∷ 1 ∷ 0 ∷ 0 ∷ 0 ∷ 1 ∷ 0 ∷ [])
+    ∷ mask SPlusP thirdOfSeven (1 ∷ 1 ∷ 1 ∷ 0 ∷ 0 ∷ 1 ∷ 0 ∷ [])
+    ∷ mask TT thirdOfSeven (1 ∷ 1 ∷ 1 ∷ 1 ∷ 0 ∷ 1 ∷ 0 ∷ [])
+    ∷ mask FiveThree thirdOfSeven (0 ∷ 1 ∷ 1 ∷ 0 ∷ 1 ∷ 1 ∷ 1 ∷ [])
+    ∷ mask S unpaired (0 ∷ 0 ∷ 0 ∷ 1 ∷ 0 ∷ 0 ∷ 0 ∷ [])
+    ∷ mask SPlusP unpaired (0 ∷ 0 ∷ 0 ∷ 1 ∷ 0 ∷ 0 ∷ 0 ∷ [])
+    ∷ mask TT unpaired (0 ∷ 0 ∷ 0 ∷ 1 ∷ 0 ∷ 0 ∷ 0 ∷ [])
+    ∷ mask FiveThree unpaired (0 ∷ 0 ∷ 0 ∷ 1 ∷ 0 ∷ 0 ∷ 1 ∷ [])
     ∷ []

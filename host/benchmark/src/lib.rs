@@ -3,11 +3,11 @@
 pub mod timing;
 
 /// A slope with edges and some noise, as a panel has.
-pub fn picture(side: usize) -> Vec<u16> {
+pub fn picture(w: usize, h: usize) -> Vec<u16> {
     let mut noise: u64 = 1;
-    let mut samples = Vec::with_capacity(side * side);
-    for y in 0..side {
-        for x in 0..side {
+    let mut samples = Vec::with_capacity(w * h);
+    for y in 0..h {
+        for x in 0..w {
             noise ^= noise << 13;
             noise ^= noise >> 7;
             noise ^= noise << 17;

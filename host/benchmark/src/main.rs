@@ -4,10 +4,41 @@
 
 mod outside;
 
+use std::fmt;
+
 use benchmark::picture;
 use benchmark::timing::best;
 
-const SIDES: [usize; 3] = [512, 2048, 4096];
+/// A picture's width and height.
+#[derive(Clone, Copy, PartialEq)]
+struct Size {
+    w: usize,
+    h: usize,
+}
+
+impl Size {
+    const fn new(w: usize, h: usize) -> Size {
+        Size { w, h }
+    }
+
+    fn samples(self) -> usize {
+        self.w * self.h
+    }
+}
+
+impl fmt::Display for Size {
+    fn fmt(&self, f: &mut fmt::Formatter) -> fmt::Result {
+        write!(f, "{} by {}", self.w, self.h)
+    }
+}
+
+/// By their samples, the smallest first.
+const SIZES: [Size; 4] = [
+    Size::new(512, 512),
+    Size::new(1366, 768),
+    Size::new(2048, 2048),
+    Size::new(4096, 4096),
+];
 const DEPTH: usize = 8;
 const KERNELS: [&str; 4] = ["0, S", "1, S+P", "2, TT", "3, 5/3"];
 
@@ -23,18 +54,18 @@ enum Outside {
 /// One line of a table: the best times in milliseconds.
 struct Row {
     name: String,
-    side: usize,
+    size: Size,
     copy: f64,
     library: f64,
     reference: f64,
     outside: Outside,
 }
 
-fn row(name: String, side: usize, times: [f64; 3], outside: Outside) -> Row {
+fn row(name: String, size: Size, times: [f64; 3], outside: Outside) -> Row {
     let [copy, library, reference] = times;
     Row {
         name,
-        side,
+        size,
         copy,
         library,
         reference,
@@ -47,16 +78,16 @@ fn accepted(number: u64) {
 }
 
 /// OpenJPEG's times for kernel 3; its coefficients must be the library's.
-fn outside_times(kernel: usize, side: usize, levels: usize, samples: &[u16]) -> [Outside; 2] {
+fn outside_times(kernel: usize, size: Size, levels: usize, samples: &[u16]) -> [Outside; 2] {
     if kernel != 3 {
         return [Outside::None; 2];
     }
-    let Some(outside) = outside::run(samples, side, levels) else {
+    let Some(outside) = outside::run(samples, size.w, size.h, levels) else {
         return [Outside::NotInstalled; 2];
     };
-    let mut plane = vec![0; side * side];
+    let mut plane = vec![0; size.samples()];
     accepted(bindings::transform(
-        kernel, levels, DEPTH, side, side, samples, &mut plane,
+        kernel, levels, DEPTH, size.w, size.h, samples, &mut plane,
     ));
     assert!(
         plane == outside.plane,
@@ -70,11 +101,11 @@ fn outside_times(kernel: usize, side: usize, levels: usize, samples: &[u16]) -> 
 
 fn transform_times(
     kernel: usize,
-    side: usize,
+    size: Size,
     levels: usize,
     samples: &[u16],
 ) -> ([f64; 3], Vec<i32>) {
-    let [mut copied, mut plane, mut expected] = [0, 0, 0].map(|c| vec![c; side * side]);
+    let [mut copied, mut plane, mut expected] = [0, 0, 0].map(|c| vec![c; size.samples()]);
     let times = best([
         &mut || {
             for (c, &s) in copied.iter_mut().zip(samples) {
@@ -84,7 +115,7 @@ fn transform_times(
         },
         &mut || {
             accepted(bindings::transform(
-                kernel, levels, DEPTH, side, side, samples, &mut plane,
+                kernel, levels, DEPTH, size.w, size.h, samples, &mut plane,
             ));
         },
         &mut || {
@@ -92,8 +123,8 @@ fn transform_times(
                 kernel,
                 levels,
                 DEPTH,
-                side,
-                side,
+                size.w,
+                size.h,
                 samples,
                 &mut expected,
             ));
@@ -103,8 +134,8 @@ fn transform_times(
     (times, plane)
 }
 
-fn undo_times(kernel: usize, side: usize, levels: usize, plane: &[i32]) -> [f64; 3] {
-    let [mut copied, mut undone, mut expected] = [0, 0, 0].map(|n| vec![n; side * side]);
+fn undo_times(kernel: usize, size: Size, levels: usize, plane: &[i32]) -> [f64; 3] {
+    let [mut copied, mut undone, mut expected] = [0, 0, 0].map(|n| vec![n; size.samples()]);
     let times = best([
         &mut || {
             copied.copy_from_slice(plane);
@@ -114,8 +145,8 @@ fn undo_times(kernel: usize, side: usize, levels: usize, plane: &[i32]) -> [f64;
             accepted(bindings::undo(
                 kernel,
                 levels,
-                side,
-                side,
+                size.w,
+                size.h,
                 plane,
                 &mut undone,
             ))
@@ -124,8 +155,8 @@ fn undo_times(kernel: usize, side: usize, levels: usize, plane: &[i32]) -> [f64;
             accepted(reference::undo(
                 kernel,
                 levels,
-                side,
-                side,
+                size.w,
+                size.h,
                 plane,
                 &mut expected,
             ))
@@ -135,39 +166,41 @@ fn undo_times(kernel: usize, side: usize, levels: usize, plane: &[i32]) -> [f64;
     times
 }
 
-fn transform_rows(kernel: usize, side: usize, levels: usize, samples: &[u16]) -> [Row; 2] {
+fn transform_rows(kernel: usize, size: Size, levels: usize, samples: &[u16]) -> [Row; 2] {
     let name = || format!("{} | {levels}", KERNELS[kernel]);
-    let [outside, outside_back] = outside_times(kernel, side, levels, samples);
-    let (times, plane) = transform_times(kernel, side, levels, samples);
-    let times_back = undo_times(kernel, side, levels, &plane);
+    let [outside, outside_back] = outside_times(kernel, size, levels, samples);
+    let (times, plane) = transform_times(kernel, size, levels, samples);
+    let times_back = undo_times(kernel, size, levels, &plane);
     [
-        row(name(), side, times, outside),
-        row(name(), side, times_back, outside_back),
+        row(name(), size, times, outside),
+        row(name(), size, times_back, outside_back),
     ]
 }
 
 /// No rectangle, one over a tenth of the picture, one over all of it.
-fn regions(side: usize) -> [(&'static str, Vec<u32>); 3] {
-    let part = (side as f64 * 0.1_f64.sqrt()) as u32;
-    let first = (side as u32 - part) / 2;
+fn regions(size: Size) -> [(&'static str, Vec<u32>); 3] {
+    let sides = [size.w as u32, size.h as u32];
+    let [width, height] = sides.map(|side| (f64::from(side) * 0.1_f64.sqrt()) as u32);
+    let [x, y] = [(sides[0] - width) / 2, (sides[1] - height) / 2];
     [
         ("none", Vec::new()),
-        ("a tenth", vec![first, first, part, part]),
-        ("all", vec![0, 0, side as u32, side as u32]),
+        ("a tenth", vec![x, y, width, height]),
+        ("all", vec![0, 0, sides[0], sides[1]]),
     ]
 }
 
 /// Eight rectangles, four in each of two rows, over about a tenth of the picture.
-fn eight(side: usize) -> Vec<u32> {
-    let part = |percent: usize| (side * percent / 100) as u32;
-    let [width, height] = [part(9), part(14)];
-    let place = |i: usize| [part(10 + 23 * (i % 4)), part(20 + 45 * (i / 4))];
+fn eight(size: Size) -> Vec<u32> {
+    let across = |percent: usize| (size.w * percent / 100) as u32;
+    let down = |percent: usize| (size.h * percent / 100) as u32;
+    let [width, height] = [across(9), down(14)];
+    let place = |i: usize| [across(10 + 23 * (i % 4)), down(20 + 45 * (i / 4))];
     let rectangle = |i| [place(i)[0], place(i)[1], width, height];
     (0..8).flat_map(rectangle).collect()
 }
 
-fn mask_times(kernel: usize, side: usize, levels: usize, region: &[u8]) -> [f64; 3] {
-    let [mut copied, mut mask, mut expected] = [0, 0, 0].map(|m| vec![m; side * side]);
+fn mask_times(kernel: usize, size: Size, levels: usize, region: &[u8]) -> [f64; 3] {
+    let [mut copied, mut mask, mut expected] = [0, 0, 0].map(|m| vec![m; size.samples()]);
     let times = best([
         &mut || {
             copied.copy_from_slice(region);
@@ -175,15 +208,15 @@ fn mask_times(kernel: usize, side: usize, levels: usize, region: &[u8]) -> [f64;
         },
         &mut || {
             accepted(bindings::mask(
-                kernel, levels, side, side, region, &mut mask,
+                kernel, levels, size.w, size.h, region, &mut mask,
             ))
         },
         &mut || {
             accepted(reference::mask(
                 kernel,
                 levels,
-                side,
-                side,
+                size.w,
+                size.h,
                 region,
                 &mut expected,
             ))
@@ -193,12 +226,12 @@ fn mask_times(kernel: usize, side: usize, levels: usize, region: &[u8]) -> [f64;
     times
 }
 
-fn mask_row(kernel: usize, side: usize, levels: usize) -> Row {
-    let mut region = vec![0; side * side];
-    accepted(bindings::region(&eight(side), side, side, &mut region));
+fn mask_row(kernel: usize, size: Size, levels: usize) -> Row {
+    let mut region = vec![0; size.samples()];
+    accepted(bindings::region(&eight(size), size.w, size.h, &mut region));
     let name = format!("{} | {levels}", KERNELS[kernel]);
-    let times = mask_times(kernel, side, levels, &region);
-    row(name, side, times, Outside::None)
+    let times = mask_times(kernel, size, levels, &region);
+    row(name, size, times, Outside::None)
 }
 
 const STREAM_KERNEL: usize = 2;
@@ -234,7 +267,7 @@ type Write =
     fn(&[i32], &[u32], usize, usize, usize, usize, usize, &mut [u8], &mut [u8], &mut [u64]) -> u64;
 
 /// Writes a plane; gives the number returned and the total or needed length.
-fn write(by: Write, side: usize, numbers: &[u32], buffers: &mut Buffers) -> (u64, usize) {
+fn write(by: Write, size: Size, numbers: &[u32], buffers: &mut Buffers) -> (u64, usize) {
     let mut results = [0; 3];
     let number = by(
         &buffers.plane,
@@ -242,8 +275,8 @@ fn write(by: Write, side: usize, numbers: &[u32], buffers: &mut Buffers) -> (u64
         STREAM_KERNEL,
         STREAM_LEVELS,
         DEPTH,
-        side,
-        side,
+        size.w,
+        size.h,
         &mut buffers.mask,
         &mut buffers.stream,
         &mut results,
@@ -252,41 +285,41 @@ fn write(by: Write, side: usize, numbers: &[u32], buffers: &mut Buffers) -> (u64
 }
 
 /// The plane of the picture in buffers for its stream, not yet written.
-fn unwritten(side: usize, numbers: &[u32], samples: &[u16]) -> Buffers {
-    let mut buffers = Buffers::new(side * side, 0);
+fn unwritten(size: Size, numbers: &[u32], samples: &[u16]) -> Buffers {
+    let mut buffers = Buffers::new(size.samples(), 0);
     accepted(reference::transform(
         STREAM_KERNEL,
         STREAM_LEVELS,
         DEPTH,
-        side,
-        side,
+        size.w,
+        size.h,
         samples,
         &mut buffers.plane,
     ));
-    let (number, needed) = write(bindings::write, side, numbers, &mut buffers);
+    let (number, needed) = write(bindings::write, size, numbers, &mut buffers);
     assert_eq!(number, 11, "an empty buffer learns the needed length");
     buffers.stream = vec![0; needed];
     buffers
 }
 
-fn write_times(side: usize, numbers: &[u32], buffers: &mut Buffers) -> [f64; 3] {
+fn write_times(size: Size, numbers: &[u32], buffers: &mut Buffers) -> [f64; 3] {
     let from = buffers.clone();
     let mut copied = buffers.clone();
     let mut expected = buffers.clone();
     let times = best([
         &mut || copied.copy_from(&from),
-        &mut || accepted(write(bindings::write, side, numbers, buffers).0),
-        &mut || accepted(write(reference::write, side, numbers, &mut expected).0),
+        &mut || accepted(write(bindings::write, size, numbers, buffers).0),
+        &mut || accepted(write(reference::write, size, numbers, &mut expected).0),
     ]);
     assert!(*buffers == expected, "write: library and reference differ");
     times
 }
 
-fn read_times(side: usize, written: &Buffers) -> [f64; 3] {
+fn read_times(size: Size, written: &Buffers) -> [f64; 3] {
     let stream = &written.stream;
-    let mut copied = Buffers::new(side * side, stream.len());
-    let mut read = Buffers::new(side * side, 0);
-    let mut expected = Buffers::new(side * side, 0);
+    let mut copied = Buffers::new(size.samples(), stream.len());
+    let mut read = Buffers::new(size.samples(), 0);
+    let mut expected = Buffers::new(size.samples(), 0);
     let mut results = [0; 139];
     let mut expected_results = [0; 139];
     let times = best([
@@ -305,20 +338,20 @@ fn read_times(side: usize, written: &Buffers) -> [f64; 3] {
     times
 }
 
-fn stream_rows(side: usize, share: &str, numbers: &[u32], samples: &[u16]) -> [Row; 2] {
-    let mut buffers = unwritten(side, numbers, samples);
-    let times = write_times(side, numbers, &mut buffers);
-    let times_back = read_times(side, &buffers);
+fn stream_rows(size: Size, share: &str, numbers: &[u32], samples: &[u16]) -> [Row; 2] {
+    let mut buffers = unwritten(size, numbers, samples);
+    let times = write_times(size, numbers, &mut buffers);
+    let times_back = read_times(size, &buffers);
     [
-        row(share.to_string(), side, times, Outside::None),
-        row(share.to_string(), side, times_back, Outside::None),
+        row(share.to_string(), size, times, Outside::None),
+        row(share.to_string(), size, times_back, Outside::None),
     ]
 }
 
 fn print_line(row: &Row) {
     let ratio = row.library / row.reference;
     let over_copy = row.library / row.copy;
-    print!("| {} | {} ", row.name, row.side);
+    print!("| {} | {} ", row.name, row.size);
     print!(
         "| {:.3} | {:.3} | {:.3} ",
         row.library, row.reference, row.copy
@@ -329,7 +362,7 @@ fn print_line(row: &Row) {
 /// With a column for OpenJPEG if `outside`.
 fn print_table(title: &str, first: &str, rows: &[Row], outside: bool) {
     println!("## {title}\n");
-    print!("| {first} | side | library | reference | copy ");
+    print!("| {first} | size | library | reference | copy ");
     print!("| library : reference | library : copy |");
     if outside {
         print!(" OpenJPEG | library : OpenJPEG |");
@@ -351,31 +384,27 @@ fn print_table(title: &str, first: &str, rows: &[Row], outside: bool) {
 /// Nanoseconds a sample at each size, and how the time grows from the smallest
 /// to the largest.
 fn print_growth(tables: &[(&str, &[Row])]) {
-    let [small, middle, large] = SIDES;
-    let samples = (large * large / (small * small)) as f64;
+    let (small, large) = (SIZES[0], SIZES[SIZES.len() - 1]);
+    let samples = (large.samples() / small.samples()) as f64;
     println!("## Growth\n");
     println!(
         "Library, nanoseconds a sample. From {small} to {large} the samples are \
          {samples} times as many; the last column is the time's factor over that, \
          1 if the time grows as the samples do.\n"
     );
-    println!("| work | {small} | {middle} | {large} | time's factor | over {samples} |");
-    println!("|:--|---:|---:|---:|---:|---:|");
+    let heads = SIZES.map(|size| size.to_string()).join(" | ");
+    println!("| work | {heads} | time's factor | over {samples} |");
+    println!("|:--|{}", "---:|".repeat(SIZES.len() + 2));
     for (name, rows) in tables {
-        for first in rows.iter().filter(|row| row.side == small) {
-            let time = |side| {
-                let same = |row: &&Row| row.name == first.name && row.side == side;
+        for first in rows.iter().filter(|row| row.size == small) {
+            let time = |size| {
+                let same = |row: &&Row| row.name == first.name && row.size == size;
                 rows.iter().find(same).expect("every size").library
             };
-            let each = |side: usize| time(side) * 1e6 / (side * side) as f64;
+            let each = |size: Size| format!("{:.2}", time(size) * 1e6 / size.samples() as f64);
             let factor = time(large) / time(small);
             print!("| {name}, {} ", first.name.replace(" | ", ", levels "));
-            print!(
-                "| {:.2} | {:.2} | {:.2} ",
-                each(small),
-                each(middle),
-                each(large)
-            );
+            print!("| {} ", SIZES.map(each).join(" | "));
             println!("| {factor:.1} | {:.2} |", factor / samples);
         }
     }
@@ -385,18 +414,18 @@ fn print_growth(tables: &[(&str, &[Row])]) {
 fn main() {
     let (mut there, mut back, mut masks) = (Vec::new(), Vec::new(), Vec::new());
     let (mut written, mut read) = (Vec::new(), Vec::new());
-    for side in SIDES {
-        let samples = picture(side);
+    for size in SIZES {
+        let samples = picture(size.w, size.h);
         for kernel in 0..4 {
             for levels in [1, 5] {
-                let [a, b] = transform_rows(kernel, side, levels, &samples);
+                let [a, b] = transform_rows(kernel, size, levels, &samples);
                 there.push(a);
                 back.push(b);
-                masks.push(mask_row(kernel, side, levels));
+                masks.push(mask_row(kernel, size, levels));
             }
         }
-        for (share, numbers) in regions(side) {
-            let [a, b] = stream_rows(side, share, &numbers, &samples);
+        for (share, numbers) in regions(size) {
+            let [a, b] = stream_rows(size, share, &numbers, &samples);
             written.push(a);
             read.push(b);
         }

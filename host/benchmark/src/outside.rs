@@ -15,12 +15,13 @@ pub struct Outside {
     pub plane: Vec<i32>,
 }
 
-/// OpenJPEG goes columns first, so that it gets and gives exchanged sides.
-fn exchanged(numbers: &[i32], side: usize) -> Vec<i32> {
+/// OpenJPEG goes columns first, so that it gets and gives exchanged sides: w
+/// columns and h rows become h columns and w rows.
+fn exchanged(numbers: &[i32], w: usize, h: usize) -> Vec<i32> {
     let mut out = vec![0; numbers.len()];
-    for y in 0..side {
-        for x in 0..side {
-            out[x * side + y] = numbers[y * side + x];
+    for y in 0..h {
+        for x in 0..w {
+            out[x * h + y] = numbers[y * w + x];
         }
     }
     out
@@ -36,14 +37,14 @@ fn from_bytes(bytes: &[u8]) -> Vec<i32> {
 }
 
 /// None if the program is not there.
-pub fn run(samples: &[u16], side: usize, levels: usize) -> Option<Outside> {
+pub fn run(samples: &[u16], w: usize, h: usize, levels: usize) -> Option<Outside> {
     let program = env::var_os("OUTSIDE_53")?;
     let picture: Vec<i32> = samples.iter().map(|&s| i32::from(s)).collect();
-    let head = [side as i32, side as i32, levels as i32];
+    let head = [h as i32, w as i32, levels as i32];
     let mut bytes = to_bytes(&head);
-    bytes.extend(to_bytes(&exchanged(&picture, side)));
+    bytes.extend(to_bytes(&exchanged(&picture, w, h)));
     let mut child = Command::new(program)
-        .arg(timing::rounds(side).to_string())
+        .arg(timing::rounds(samples.len()).to_string())
         .stdin(Stdio::piped())
         .stdout(Stdio::piped())
         .stderr(Stdio::piped())
@@ -66,6 +67,6 @@ pub fn run(samples: &[u16], side: usize, levels: usize) -> Option<Outside> {
     Some(Outside {
         transform: times[0],
         undo: times[1],
-        plane: exchanged(&from_bytes(&out), side),
+        plane: exchanged(&from_bytes(&out), h, w),
     })
 }

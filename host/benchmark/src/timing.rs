@@ -40,11 +40,11 @@ pub fn best<const N: usize>(mut works: [&mut dyn FnMut(); N]) -> [f64; N] {
     best.map(|time| time.as_secs_f64() * 1e3)
 }
 
-/// Rounds for the outside program, which counts its own.
-pub fn rounds(side: usize) -> usize {
-    match side {
-        0..=512 => MOST_ROUNDS,
-        513..=2048 => 8,
+/// Rounds for the outside program, which counts its own, by the samples.
+pub fn rounds(samples: usize) -> usize {
+    match samples {
+        0..=262_144 => MOST_ROUNDS,
+        262_145..=4_194_304 => 8,
         _ => 4,
     }
 }

@@ -115,7 +115,7 @@ fn compare(kernel: usize, samples: &[u16]) -> [bool; 2] {
 }
 
 fn main() -> ExitCode {
-    let samples = picture(SIDE);
+    let samples = picture(SIDE, SIDE);
     println!(
         "| kernel | transform, earlier | now | now : earlier | undo, earlier | now | now : earlier |"
     );

@@ -149,10 +149,10 @@ const WRONG_KERNELS: [usize; 9] = [4, 5, 255, 256, 300, 1 << 32, (1 << 32) + 1, 
 const WRONG_LEVELS: [usize; 9] = [0, 6, 7, 63, 64, 256 + 1, (1 << 32) + 1, 1 << 63, TOP];
 const WRONG_DEPTHS: [usize; 9] = [0, 11, 12, 16, 32, 256 + 8, (1 << 32) + 8, 1 << 63, TOP];
 const WRONG_PLANES: [usize; 8] = [23, 24, 31, 32, 64, 1 << 32, 1 << 63, TOP];
-const WRONG_SIDES: [usize; 17] = [
+/// Sides outside the limits, and some inside that are seldom the buffers' own.
+const WRONG_SIDES: [usize; 16] = [
     0,
     1,
-    3,
     33,
     4095,
     4096,
@@ -178,12 +178,10 @@ const WRONG_MAGNITUDES: [i32; 7] = [
     i32::MIN + 1,
 ];
 
-fn wrong_side(random: &mut Random, side: usize, levels: usize) -> usize {
+fn wrong_side(random: &mut Random, side: usize) -> usize {
     match random.below(6) {
         0 => side.wrapping_add(1),
         1 => side.wrapping_sub(1),
-        // A side that may be accepted, but is not that of the buffers.
-        2 => side.wrapping_add(1 << levels.min(5)),
         _ => random.pick(&WRONG_SIDES),
     }
 }
@@ -259,8 +257,8 @@ fn spoil(random: &mut Random, setup: &mut Setup, kind: usize) {
         1 => shape.levels = random.pick(&WRONG_LEVELS),
         2 => shape.depth = random.pick(&WRONG_DEPTHS),
         3 => setup.q = random.pick(&WRONG_PLANES),
-        4 => shape.w = wrong_side(random, shape.w, shape.levels),
-        5 => shape.h = wrong_side(random, shape.h, shape.levels),
+        4 => shape.w = wrong_side(random, shape.w),
+        5 => shape.h = wrong_side(random, shape.h),
         6 => {
             let len = wrong_length(random, setup.plane.len());
             setup.samples.resize(len, 0);
@@ -359,82 +357,89 @@ groups!(show);
 groups!(truncate);
 groups!(write);
 
-/// Sides without a level count: every size of a call that has none.
-pub fn odd_sides(group: &mut Group, random: &mut Random) {
-    let (w, h) = (random.within(1, 40), random.within(1, 40));
+/// Every size to 40 by 40, through every entry.
+pub fn every_size(group: &mut Group, random: &mut Random) {
+    let case = group.case as usize;
+    let (w, h) = (1 + case % 40, 1 + case / 40);
     let shape = Shape {
-        kernel: 0,
-        levels: 1,
+        kernel: random.below(4),
+        levels: random.within(1, 5),
         depth: random.within(1, 10),
         w,
         h,
         numbers: shots::rectangles(random, w, h),
     };
-    let mut setup = Setup {
-        samples: Vec::new(),
-        plane: shots::plane(random, w * h),
-        ..setup(
-            random,
-            Shape {
-                w: 2,
-                h: 2,
-                numbers: Vec::new(),
-                ..shape.clone()
-            },
-        )
-    };
-    setup.undone = any_numbers(random, w * h);
-    setup.mask = mark_bytes(random, w * h);
-    setup.out_len = w * h;
-    setup.shape = shape;
-    for entry in [region, show, truncate] {
+    let setup = setup(random, shape);
+    for entry in [region, mask, transform, undo, show, truncate, write] {
         group.compare(entry(&setup));
     }
 }
 
-/// Every region of 4 by 4 samples, for every kernel, at one and two levels.
-pub fn every_small_region(group: &mut Group, _: &mut Random) {
+/// The region that a case's bits are, for every kernel, at one to `deepest`
+/// levels.
+fn small_region(group: &mut Group, w: usize, h: usize, deepest: usize) {
     let bits = group.case;
-    let region: Vec<u8> = (0..16).map(|i| (bits >> i & 1) as u8).collect();
+    let region: Vec<u8> = (0..w * h).map(|i| (bits >> i & 1) as u8).collect();
     for kernel in 0..4 {
-        for levels in 1..=2 {
+        for levels in 1..=deepest {
             group.compare(Call::Mask {
                 kernel,
                 levels,
-                w: 4,
-                h: 4,
+                w,
+                h,
                 region: region.clone(),
-                mask: held(16),
+                mask: held(w * h),
             });
         }
     }
 }
 
-/// Every plane of 4 by 2 coefficients from −2 to 1, and every such picture of
-/// depth 2, for every kernel.
-pub fn every_small_plane(group: &mut Group, _: &mut Random) {
+/// Every region of 4 by 4 samples.
+pub fn every_small_region(group: &mut Group, _: &mut Random) {
+    small_region(group, 4, 4, 2);
+}
+
+/// Every region of 5 by 3 samples, to the level that leaves one sample.
+pub fn every_odd_region(group: &mut Group, _: &mut Random) {
+    small_region(group, 5, 3, 3);
+}
+
+/// The plane of coefficients from −2 to 1 that a case's digits are, and that
+/// picture of depth 2, for every kernel.
+fn small_plane(group: &mut Group, w: usize, h: usize) {
     let digits = group.case;
-    let samples: Vec<u16> = (0..8).map(|i| (digits >> (2 * i) & 3) as u16).collect();
+    let samples: Vec<u16> = (0..w * h).map(|i| (digits >> (2 * i) & 3) as u16).collect();
     let plane: Vec<i32> = samples.iter().map(|&s| i32::from(s) - 2).collect();
     for kernel in 0..4 {
         group.compare(Call::Transform {
             kernel,
             levels: 1,
             depth: 2,
-            w: 4,
-            h: 2,
+            w,
+            h,
             samples: samples.clone(),
-            plane: held(8),
+            plane: held(w * h),
         });
         group.compare(Call::Undo {
             kernel,
             levels: 1,
-            w: 4,
-            h: 2,
+            w,
+            h,
             plane: plane.clone(),
-            undone: held(8),
+            undone: held(w * h),
         });
     }
+}
+
+/// Every such plane of 4 by 2.
+pub fn every_small_plane(group: &mut Group, _: &mut Random) {
+    small_plane(group, 4, 2);
+}
+
+/// Every such row and column of 7.
+pub fn every_odd_line(group: &mut Group, _: &mut Random) {
+    small_plane(group, 7, 1);
+    small_plane(group, 1, 7);
 }
 
 /// The writer with every length of the stream buffer and of the results.
@@ -468,9 +473,10 @@ fn undone(kernel: usize, levels: usize, side: usize, plane: &[i32]) -> Vec<i32> 
 /// as any: each coefficient takes the largest magnitude with the sign in which
 /// it alone moves that number.
 pub fn greatest_growth(group: &mut Group, random: &mut Random) {
-    let kernel = group.case as usize % 4;
-    let levels = 1 + group.case as usize / 4 % 5;
-    let side = 2 << levels;
+    let case = group.case as usize;
+    let (kernel, levels) = (case % 4, 1 + case / 4 % 5);
+    // The second kind of side is odd at every level.
+    let side = [2 << levels, (1 << levels) + 1][case / 20 % 2];
     let place = random.below(side * side);
     let mut plane = vec![0; side * side];
     let mut signs = Vec::new();

@@ -190,16 +190,19 @@ fn a_few_cuts(group: &mut Group, random: &mut Random, shape: Shape) {
     truncate_and_show(group, &chain, q);
 }
 
-/// Large pictures: 512 square for every kernel, and the longest lines.
+/// Large pictures for every kernel: a panel of 1,366 by 768, 512 square, and the
+/// longest lines.
 pub fn large(group: &mut Group, random: &mut Random) {
     let case = group.case as usize;
     let (levels, w, h) = match case / 4 {
-        0 => (5, 512, 512),
+        0 => (5, 1366, 768),
         1 => (1, 512, 512),
-        2 => (5, 4096, 32),
-        3 => (5, 32, 4096),
-        4 => (1, 4096, 2),
-        _ => (1, 2, 4096),
+        2 => (5, 4096, 33),
+        3 => (5, 31, 4096),
+        4 => (1, 4095, 2),
+        5 => (1, 3, 4095),
+        6 => (5, 4096, 1),
+        _ => (5, 1, 4095),
     };
     let shape = Shape {
         kernel: case % 4,

@@ -27,7 +27,7 @@ use random::Random;
 type Entry = (&'static str, u64, fn(&mut Group, &mut Random));
 
 #[rustfmt::skip]
-const GROUPS: [Entry; 41] = [
+const GROUPS: [Entry; 43] = [
     ("region, accepted", 4_000, arguments::region::accepted),
     ("region, one wrong argument", 9_000, arguments::region::one_wrong),
     ("region, several wrong arguments", 20_000, arguments::region::several_wrong),
@@ -50,10 +50,12 @@ const GROUPS: [Entry; 41] = [
     ("write, one wrong argument", 9_000, arguments::write::one_wrong),
     ("write, several wrong arguments", 20_000, arguments::write::several_wrong),
     ("write, every stream buffer", 200, arguments::every_stream_buffer),
-    ("sides that are no multiple", 2_000, arguments::odd_sides),
-    ("undo, greatest growth", 20, arguments::greatest_growth),
+    ("every size to 40 by 40", 1_600, arguments::every_size),
+    ("undo, greatest growth", 40, arguments::greatest_growth),
     ("every region of 4 by 4", 1 << 16, arguments::every_small_region),
+    ("every region of 5 by 3", 1 << 15, arguments::every_odd_region),
     ("every plane of 4 by 2", 1 << 16, arguments::every_small_plane),
+    ("every row and column of 7", 1 << 14, arguments::every_odd_line),
     ("streams, whole", 4_000, streams::whole),
     ("streams, result arrays", 60, streams::result_lengths),
     ("streams, buffer lengths", 200, streams::buffer_lengths),
@@ -66,9 +68,9 @@ const GROUPS: [Entry; 41] = [
     ("streams, filling bits and further bytes", 500, streams::filling),
     ("streams, random bytes", 60, streams::random_bytes),
     ("streams, every short body", 1 << 16, streams::every_short_body),
-    ("chains, every length", 600, chains::every_length),
+    ("chains, every length", 900, chains::every_length),
     ("chains, some lengths", 300, chains::some_lengths),
-    ("chains, large pictures", 24, chains::large),
+    ("chains, large pictures", 32, chains::large),
 ];
 
 /// The numbers that each entry returns; each must come up in some case.

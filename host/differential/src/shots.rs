@@ -29,16 +29,31 @@ impl Shape {
     }
 }
 
-/// A multiple of 2^J up to about the largest.
+/// Any side up to about the largest. Short sides and multiples of 2^J, which
+/// chance would seldom give, are made common.
 fn side(random: &mut Random, levels: usize, largest: usize) -> usize {
-    let most = (largest >> levels).max(1);
-    random.within(1, most) << levels
+    match random.below(8) {
+        0 => random.pick(&[1, 2, 3, 5]),
+        1 | 2 => random.within(1, (largest >> levels).max(1)) << levels,
+        _ => random.within(1, largest),
+    }
+}
+
+/// A panel of 1,366 by 768, halved until it is not above the largest.
+fn panel(largest: usize) -> (usize, usize) {
+    let (mut w, mut h) = (1366_usize, 768_usize);
+    while w > largest {
+        (w, h) = (w.div_ceil(2), h.div_ceil(2));
+    }
+    (w, h)
 }
 
 pub fn shape(random: &mut Random, largest: usize) -> Shape {
     let levels = random.within(1, 5);
-    let w = side(random, levels, largest);
-    let h = side(random, levels, largest);
+    let (w, h) = match random.below(8) {
+        0 => panel(largest),
+        _ => (side(random, levels, largest), side(random, levels, largest)),
+    };
     Shape {
         kernel: random.below(4),
         levels,
@@ -57,12 +72,8 @@ pub fn common_shape(random: &mut Random) -> Shape {
 
 /// At most 64 samples, for cases that try every place of a stream.
 pub fn tiny_shape(random: &mut Random) -> Shape {
-    let levels = random.pick(&[1, 1, 1, 2, 2, 3]);
-    let most = [0, 4, 2, 1][levels];
-    let (w, h) = (
-        random.within(1, most) << levels,
-        random.within(1, most) << levels,
-    );
+    let levels = random.pick(&[1, 1, 1, 2, 2, 3, 5]);
+    let (w, h) = (random.within(1, 8), random.within(1, 8));
     let mut numbers = rectangles(random, w, h);
     numbers.truncate(4 * random.pick(&[0, 1, 2, 3]));
     Shape {

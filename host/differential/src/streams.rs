@@ -377,10 +377,10 @@ fn behind_header(group: &mut Group, random: &mut Random, mut stream: Vec<u8>) {
 }
 
 /// Every body of up to two bytes for a picture of 2 by 2, with no mark, with
-/// all marked, and (4 by 2) with some, T 1 to 3.
+/// all marked, and (3 by 2) with some, T 0 to 3.
 pub fn every_short_body(group: &mut Group, _: &mut Random) {
     let body = (group.case as u16).to_be_bytes();
-    for (w, rectangles) in [(2, 0), (2, 1), (4, 1)] {
+    for (w, rectangles) in [(2, 0), (2, 1), (3, 1)] {
         for planes in 0..4 {
             let mut stream = vec![0, 0, 0, 0, 1, 0, 1, 8, 0, w, 0, 2, rectangles, planes];
             if rectangles == 1 {

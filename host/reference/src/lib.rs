@@ -80,7 +80,7 @@ pub fn mask(
     let tested = || -> Tested {
         refusal::kernel(kernel)?;
         refusal::levels(levels)?;
-        refusal::sides_with_levels(w, h, levels)?;
+        refusal::sides(w, h)?;
         refusal::length(region.len(), w, h)?;
         refusal::length(mask.len(), w, h)?;
         refusal::marks(region)
@@ -105,7 +105,7 @@ pub fn transform(
         refusal::kernel(kernel)?;
         refusal::levels(levels)?;
         refusal::depth(depth)?;
-        refusal::sides_with_levels(w, h, levels)?;
+        refusal::sides(w, h)?;
         refusal::length(samples.len(), w, h)?;
         refusal::length(plane.len(), w, h)?;
         refusal::samples(samples, depth)
@@ -130,7 +130,7 @@ pub fn undo(
     let tested = || -> Tested {
         refusal::kernel(kernel)?;
         refusal::levels(levels)?;
-        refusal::sides_with_levels(w, h, levels)?;
+        refusal::sides(w, h)?;
         refusal::length(plane.len(), w, h)?;
         refusal::length(undone.len(), w, h)?;
         refusal::magnitudes(plane)
@@ -200,7 +200,7 @@ pub fn write(
         refusal::kernel(kernel)?;
         refusal::levels(levels)?;
         refusal::depth(depth)?;
-        refusal::sides_with_levels(w, h, levels)?;
+        refusal::sides(w, h)?;
         refusal::rectangles(numbers, w, h)?;
         refusal::length(plane.len(), w, h)?;
         refusal::length(mask.len(), w, h)?;

@@ -33,17 +33,9 @@ pub fn dropped(q: usize) -> Tested {
     refuse_if(q > MOST_PLANES, 3)
 }
 
-/// The sides of a call without a level count.
 pub fn sides(w: usize, h: usize) -> Tested {
     let outside = |side| !(1..=LARGEST_SIDE).contains(&side);
     refuse_if(outside(w) || outside(h), 4)
-}
-
-/// The sides of a call with a level count, which is already tested.
-pub fn sides_with_levels(w: usize, h: usize, levels: usize) -> Tested {
-    sides(w, h)?;
-    let step = 1 << levels;
-    refuse_if(w % step != 0 || h % step != 0, 4)
 }
 
 /// A buffer's length, for sides already tested.

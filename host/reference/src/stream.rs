@@ -61,7 +61,7 @@ pub fn parse(stream: &[u8]) -> Result<(Header, usize), u64> {
     refusal::kernel(header.kernel)?;
     refusal::levels(header.levels)?;
     refusal::depth(header.depth)?;
-    refusal::sides_with_levels(header.w, header.h, header.levels)?;
+    refusal::sides(header.w, header.h)?;
     refusal::rectangles(&header.numbers, header.w, header.h)?;
     refusal::planes(header.planes)?;
     Ok((header, start))

@@ -63,14 +63,42 @@ fn dropping_two_planes() {
     assert_eq!(plane, [-4, 0, -7, 3]);
 }
 
+/// Sides within the limits are taken under every J, all others refused.
 #[test]
-fn sides_follow_the_levels() {
-    let mut plane = [9; 24];
-    assert_eq!(reference::transform(0, 2, 8, 6, 4, &[0; 24], &mut plane), 4);
-    assert_eq!(plane, [9; 24]);
-    let mut plane = [9; 32];
-    assert_eq!(reference::transform(0, 2, 8, 8, 4, &[0; 32], &mut plane), 0);
-    assert_eq!(plane, [0; 32]);
+fn sides() {
+    for (w, h) in [(6, 4), (8, 4), (1, 1), (4096, 1), (1, 4095)] {
+        let samples = vec![0; w * h];
+        let mut plane = vec![9; w * h];
+        let number = reference::transform(0, 2, 8, w, h, &samples, &mut plane);
+        assert_eq!((number, plane), (0, vec![0; w * h]), "{w} by {h}");
+    }
+    for (w, h) in [(0, 4), (4, 0), (4097, 1), (1, 4097)] {
+        let mut plane = [9; 4];
+        let number = reference::transform(0, 2, 8, w, h, &[0; 4], &mut plane);
+        assert_eq!((number, plane), (4, [9; 4]), "{w} by {h}");
+    }
+}
+
+/// Nine samples, one pair and one unpaired sample in each row and column.
+#[test]
+fn three_by_three() {
+    let picture = [10, 7, 49, 4, 4, 1, 20, 9, 30];
+    for (kernel, levels, expected) in [
+        (0, 1, [6, 25, 1, 14, 30, 11, 4, 48, 3]),
+        (1, 1, [6, 25, 7, 14, 30, 15, 6, 50, 16]),
+        (2, 1, [6, 25, 8, 14, 30, 17, 7, 50, 20]),
+        (3, 1, [-1, 24, -11, 12, 8, -5, 0, -28, 21]),
+        (0, 2, [18, -18, 1, -7, -3, 11, 4, 48, 3]),
+        (3, 2, [11, 11, -11, -2, -29, -5, 0, -28, 21]),
+    ] {
+        let mut plane = [99; 9];
+        let number = reference::transform(kernel, levels, 8, 3, 3, &picture, &mut plane);
+        assert_eq!(
+            (number, plane),
+            (0, expected),
+            "kernel {kernel}, J {levels}"
+        );
+    }
 }
 
 #[test]

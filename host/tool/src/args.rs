@@ -13,7 +13,7 @@ dhiirqobaal: panel shots whose rectangles arrive exactly
   dhiirqobaal encode IN.pgm OUT.stream [--rect x,y,w,h]... [--kernel K] [--levels J] [--depth D]
       transforms a PGM picture (P5 or P2) and writes its stream. Up to 32 rectangles; K is 0 or s, 1 or sp, 2 or tt,
       3 or 53 (default 3); J is 1 to 5 (default 3); D is 1 to 10 (default: the bits of the picture's maximum value).
-      Width and height are multiples of 2^J, at most 4,096
+      Width and height are 1 to 4,096 each
   dhiirqobaal info STREAM
       prints the header, the rectangles, how much has arrived, and the seconds on the cable
   dhiirqobaal cut IN.stream OUT.stream --length BYTES | --seconds S

@@ -97,7 +97,7 @@ fn row(shot: &Shot, label: &str, length: usize) -> Result<String, Failure> {
     };
     let reading = codec::read(&stream, &label)?;
     let picture = shown(&reading)?;
-    let name = format!("cut-{length:06}");
+    let name = format!("cut-{length:07}");
     files::write(&shot.folder.join(format!("{name}.stream")), &stream)?;
     files::write(&shot.folder.join(format!("{name}.pgm")), &pgm::format(&picture))?;
     let compared = |wanted| differences(&shot.panel.samples, &picture.samples, &shot.region, wanted, picture.width);

@@ -44,7 +44,7 @@ pub fn meaning(number: u64) -> &'static str {
         1 => "the kernel is not 0 to 3",
         2 => "the levels J are not 1 to 5",
         3 => "the depth D is not 1 to 10",
-        4 => "width or height is not a multiple of 2^J, or not 1 to 4,096",
+        4 => "width or height is not 1 to 4,096",
         5 => "a buffer does not have width times height elements",
         6 => "a sample is above 2^D - 1",
         7 => "there are more than 32 rectangles",

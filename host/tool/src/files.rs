@@ -9,7 +9,7 @@ use std::path::Path;
 const LONGEST: u64 = 256 << 20;
 
 /// Pictures of this many samples take long enough that the user wants to know how far the work is.
-const LARGE: usize = 1 << 20;
+const LARGE: usize = 1 << 22;
 
 fn problem(path: &Path, error: &io::Error) -> Failure {
     Failure::Input(format!("{}: {error}", path.display()))

@@ -3,16 +3,16 @@
 use crate::font;
 use crate::pgm::Picture;
 
-pub const WIDTH: usize = 640;
-pub const HEIGHT: usize = 480;
+pub const WIDTH: usize = 1366;
+pub const HEIGHT: usize = 768;
 
 const LAMPS: [(&str, bool); 6] =
     [("GUARD", true), ("DOOR", true), ("DRIVE", false), ("OIL", true), ("E-STOP", false), ("AUTO", true)];
-const LAMP_Y: f64 = 172.0;
+const LAMP_Y: f64 = 268.0;
 const GAUGES: [(&str, f64); 3] = [("BAR", 0.31), ("RPM", 0.78), ("DEG C", 0.55)];
-const GAUGE_Y: f64 = 318.0;
+const GAUGE_Y: f64 = 516.0;
 const BUTTONS: [&str; 4] = ["START", "STOP", "RESET", "JOG"];
-const WINDOWS: [(f64, &str); 2] = [(34.0, "PN 7341-22-B"), (350.0, "RECIPE 0187-C")];
+const WINDOWS: [(f64, &str); 2] = [(93.0, "PN 7341-22-B"), (713.0, "RECIPE 0187-C")];
 
 /// An area in samples; x and y of its upper left corner.
 struct Area {
@@ -106,8 +106,8 @@ fn background() -> Canvas {
     for y in 0..HEIGHT {
         let brush = 5.0 * grain.next();
         for x in 0..WIDTH {
-            let far = (x as f64 - 180.0).hypot(y as f64 - 90.0);
-            light.push(158.0 - 0.11 * far + brush + 3.0 * grain.next());
+            let far = (x as f64 - 384.0).hypot(y as f64 - 144.0);
+            light.push(158.0 - 0.055 * far + brush + 3.0 * grain.next());
         }
     }
     Canvas { light }
@@ -124,56 +124,56 @@ impl Grain {
 }
 
 fn draw_frame(canvas: &mut Canvas) {
-    for (x, y) in [(14.0, 14.0), (626.0, 14.0), (14.0, 466.0), (626.0, 466.0)] {
-        canvas.disc(x, y, 7.0, 205.0, 70.0);
-        canvas.ray((x, y), 0.8, -5.0, 5.0, 1.0, 50.0);
+    for (x, y) in [(22.0, 22.0), (1344.0, 22.0), (22.0, 746.0), (1344.0, 746.0)] {
+        canvas.disc(x, y, 11.0, 205.0, 70.0);
+        canvas.ray((x, y), 0.8, -8.0, 8.0, 1.6, 50.0);
     }
-    canvas.plate(&Area { x: 34.0, y: 10.0, width: 572.0, height: 42.0 }, 6.0, 62.0, 40.0);
-    canvas.centred(320.0, 21.0, 3.0, 214.0, "PRESS LINE 4 OPERATOR PANEL");
+    canvas.plate(&Area { x: 60.0, y: 18.0, width: 1246.0, height: 68.0 }, 9.0, 62.0, 40.0);
+    canvas.centred(683.0, 34.0, 5.0, 214.0, "PRESS LINE 4 OPERATOR PANEL");
 }
 
 fn draw_window(canvas: &mut Canvas, x: f64, text: &str) {
-    canvas.plate(&Area { x, y: 68.0, width: 256.0, height: 52.0 }, 5.0, 190.0, 120.0);
-    canvas.plate(&Area { x: x + 4.0, y: 72.0, width: 248.0, height: 44.0 }, 3.0, 18.0, 34.0);
-    canvas.centred(x + 128.0, 84.0, 3.0, 238.0, text);
+    canvas.plate(&Area { x, y: 108.0, width: 560.0, height: 84.0 }, 8.0, 190.0, 120.0);
+    canvas.plate(&Area { x: x + 6.0, y: 114.0, width: 548.0, height: 72.0 }, 5.0, 18.0, 34.0);
+    canvas.centred(x + 280.0, 132.0, 5.0, 238.0, text);
 }
 
 fn lamp_x(i: usize) -> f64 {
-    65.0 + 102.0 * i as f64
+    143.0 + 216.0 * i as f64
 }
 
 fn draw_lamp(canvas: &mut Canvas, x: f64, label: &str, lit: bool) {
-    canvas.disc(x, LAMP_Y, 25.0, 225.0, 60.0);
-    canvas.disc(x, LAMP_Y, 20.0, 40.0, 90.0);
+    canvas.disc(x, LAMP_Y, 42.0, 225.0, 60.0);
+    canvas.disc(x, LAMP_Y, 34.0, 40.0, 90.0);
     let (inner, outer) = if lit { (255.0, 205.0) } else { (92.0, 46.0) };
-    canvas.disc(x, LAMP_Y, 18.0, inner, outer);
-    canvas.disc(x - 6.0, LAMP_Y - 7.0, 4.0, 255.0, if lit { 250.0 } else { 120.0 });
-    canvas.centred(x, LAMP_Y + 34.0, 2.0, 28.0, label);
+    canvas.disc(x, LAMP_Y, 30.0, inner, outer);
+    canvas.disc(x - 10.0, LAMP_Y - 12.0, 7.0, 255.0, if lit { 250.0 } else { 120.0 });
+    canvas.centred(x, LAMP_Y + 56.0, 3.0, 28.0, label);
 }
 
 /// A dial with 11 long and 40 short strokes over 270 degrees.
 fn draw_gauge(canvas: &mut Canvas, x: f64, label: &str, value: f64) {
     let middle = (x, GAUGE_Y);
     let angle = |part: f64| (part * 270.0 - 135.0).to_radians();
-    canvas.disc(x, GAUGE_Y, 90.0, 215.0, 52.0);
-    canvas.disc(x, GAUGE_Y, 83.0, 240.0, 204.0);
+    canvas.disc(x, GAUGE_Y, 146.0, 215.0, 52.0);
+    canvas.disc(x, GAUGE_Y, 135.0, 240.0, 204.0);
     for i in 0..=50 {
-        let (from, half) = if i % 5 == 0 { (62.0, 1.2) } else { (70.0, 0.4) };
-        canvas.ray(middle, angle(f64::from(i) / 50.0), from, 76.0, half, 30.0);
+        let (from, half) = if i % 5 == 0 { (101.0, 2.0) } else { (114.0, 0.7) };
+        canvas.ray(middle, angle(f64::from(i) / 50.0), from, 124.0, half, 30.0);
     }
     for i in (0..=10).step_by(2) {
         let (sine, cosine) = angle(f64::from(i) / 10.0).sin_cos();
-        canvas.centred(x + 50.0 * sine, GAUGE_Y - 50.0 * cosine - 3.0, 1.0, 40.0, &i.to_string());
+        canvas.centred(x + 82.0 * sine, GAUGE_Y - 82.0 * cosine - 7.0, 2.0, 40.0, &i.to_string());
     }
-    canvas.centred(x, GAUGE_Y + 48.0, 2.0, 40.0, label);
-    canvas.ray(middle, angle(value), -14.0, 66.0, 2.0, 16.0);
-    canvas.disc(x, GAUGE_Y, 8.0, 120.0, 20.0);
+    canvas.centred(x, GAUGE_Y + 78.0, 3.0, 40.0, label);
+    canvas.ray(middle, angle(value), -22.0, 108.0, 3.0, 16.0);
+    canvas.disc(x, GAUGE_Y, 13.0, 120.0, 20.0);
 }
 
 fn draw_button(canvas: &mut Canvas, x: f64, label: &str) {
-    canvas.plate(&Area { x, y: 424.0, width: 116.0, height: 40.0 }, 8.0, 60.0, 36.0);
-    canvas.plate(&Area { x: x + 3.0, y: 426.0, width: 110.0, height: 34.0 }, 7.0, 206.0, 150.0);
-    canvas.centred(x + 58.0, 436.0, 2.0, 24.0, label);
+    canvas.plate(&Area { x, y: 686.0, width: 220.0, height: 62.0 }, 12.0, 60.0, 36.0);
+    canvas.plate(&Area { x: x + 5.0, y: 689.0, width: 210.0, height: 54.0 }, 11.0, 206.0, 150.0);
+    canvas.centred(x + 110.0, 705.0, 3.0, 24.0, label);
 }
 
 /// The panel, with 8 bits a sample.
@@ -187,10 +187,10 @@ pub fn draw() -> Picture {
         draw_lamp(&mut canvas, lamp_x(i), label, lit);
     }
     for (i, (label, value)) in GAUGES.into_iter().enumerate() {
-        draw_gauge(&mut canvas, 118.0 + 202.0 * i as f64, label, value);
+        draw_gauge(&mut canvas, 251.0 + 432.0 * i as f64, label, value);
     }
     for (i, label) in BUTTONS.into_iter().enumerate() {
-        draw_button(&mut canvas, 50.0 + 141.0 * i as f64, label);
+        draw_button(&mut canvas, 108.0 + 310.0 * i as f64, label);
     }
     let samples = canvas.light.iter().map(|light| light.round().clamp(0.0, 255.0) as u16).collect();
     Picture { width: WIDTH, height: HEIGHT, top: 255, samples }
@@ -200,10 +200,10 @@ pub fn draw() -> Picture {
 pub fn rectangles() -> Vec<u32> {
     let mut numbers = Vec::new();
     for (x, _) in WINDOWS {
-        numbers.extend([x as u32 + 8, 79, 240, 31]);
+        numbers.extend([x as u32 + 75, 123, 410, 53]);
     }
     for i in 0..LAMPS.len() {
-        numbers.extend([lamp_x(i) as u32 - 21, LAMP_Y as u32 - 21, 43, 43]);
+        numbers.extend([lamp_x(i) as u32 - 34, LAMP_Y as u32 - 34, 69, 69]);
     }
     numbers
 }

@@ -8,9 +8,9 @@ use lib.ListN.{length}
 use borrow.Author.Needs.{needs}
 use borrow.Author.Tests.{lt-ltb, le-ltb}
 use Rattle.refusal.specs.Numbers.{first}
-use Rattle.refusal.specs.Tests.{badSizeAt, badLength, badRectangles}
+use Rattle.refusal.specs.Tests.{badSize, badLength, badRectangles}
 use Rattle.refusal.specs.declared.Refusal.the-variants.{Numbers, Rectangle, Planes, Length}
-use Rattle.refusal.proofs.Passed.{multiples, area}
+use Rattle.refusal.proofs.Passed.{sides, area}
 use Rattle.header.specs.Fields.{shotOf}
 use Rattle.header.proofs.Parts.{good-long, good-front}
 use Rattle.codestream.specs.Reading.{badPlanes, otherTests, fillingTest}
@@ -30,7 +30,7 @@ abbrev M : tie.Start → ℕ
 M s = length (s .args .mask .now)
 
 -- ---- what each passed test tells
-size : (s : tie.Start) → badSizeAt (s .args .levels) (s .args .w) (s .args .h) ≡ false
+size : (s : tie.Start) → badSize (s .args .w) (s .args .h) ≡ false
 size s = setting-good (s .args .kernel) (s .args .levels) (s .args .depth) (s .args .w) (s .args .h) (s .pre .setting) .size
 
 tested : (c : tie.After-bad-rectangles) → let s = shotOf (L (c .before .before .before .before .before .before .before)) in c .bad-rectangles .result ≡ badRectangles (s .width) (s .height) (s .rectangles)
@@ -64,7 +64,7 @@ read-set-spec =
     (λ c κs. good-long (L (c .before .before .before .before .before .before .before .before)) (c .before .before .before .before .before .before .before .before .pre .header))
     (λ c κs. search needs)
     (λ c. refused-answer Planes (c .refused3 .ensures) refl (deep (L (c .before .before .before .before .before .before .before .before .before .before .before)) (N (c .before .before .before .before .before .before .before .before .before .before .before)) (M (c .before .before .before .before .before .before .before .before .before .before .before)) (c .before .before .before .before .before .before .before .before .one-byte .ensures .0) (c .before .before .before .before .before .before .before .if1 .left) (inside (c .before .before .before)) (sym (ap badPlanes (c .before .before .one-byte2 .ensures .0)) ∙ lt-ltb 22 (c .before .before .one-byte2 .result) (c .before .if3 .taken))))
-    (λ c. let s = c .before .before .before .before .before .before .before .before .before .before in area (multiples (s .args .levels) (s .args .w) (s .args .h) (size s) .0))
+    (λ c. let s = c .before .before .before .before .before .before .before .before .before .before in area (sides (s .args .w) (s .args .h) (size s)))
     (λ c κs. search needs)
     (λ c. refused-answer Length (c .refused4 .ensures) refl (plane-other (L (c .before .before .before .before .before .before .before .before .before .before .before .before)) (N (c .before .before .before .before .before .before .before .before .before .before .before .before)) (M (c .before .before .before .before .before .before .before .before .before .before .before .before)) (c .before .before .before .before .before .before .before .before .before .one-byte .ensures .0) (c .before .before .before .before .before .before .before .before .if1 .left) (inside (c .before .before .before .before)) (shallow (c .before .before)) (other-length (c .before .before .before .before .before .before .before .before .before .before .before .before .pre .width) (c .before .before .before .before .before .before .before .before .before .before .before .before .pre .height) (c .before .if4 .taken))))
     (λ c. search needs)

@@ -10,8 +10,8 @@ pub back-spec : {M : Type 1} → statement M
 back-spec =
     tie.close (tie.spec
     (λ c κs. let s = c .before in let a = s .args in
-    ((omega arith, omega (arith, s .pre .0), omega arith), (s .pre .1 .0, takes-all (a .highs) (s .pre .1 .1 .0) (bounded-more (s .pre .1 .1 .1) (omega arith)) (omega (arith, s .pre .0)) (omega arith) (a .kernel))))
-    (λ c κs. let s = c .before .before .before .before in let e = s .pre .0 .0 in let f = c .before .before .second-step .ensures in let d = undone-bounded (s .args .kernel) (rw e at (s .pre .1 .1 .0)) (s .pre .1 .1 .1) (rw e at f) in
-    ((omega arith, omega (arith, s .pre .0), omega arith), (parts-as (s .pre .1 .0) (f .size), (rw e (d .0), rows-bounded _ (d .1) (omega arith)))))
+    ((omega arith, omega arith, s .pre .0 .2, s .pre .0 .0), (s .pre .1 .0, takes-all (a .lows) (s .pre .1 .1 .0) (bounded-more (s .pre .1 .1 .1) (omega arith)) (omega arith) (a .kernel))))
+    (λ c κs. let s = c .before .before .before .before in let f = c .before .before .second-step .ensures in let d = undone-bounded (s .args .kernel) (s .pre .0 .1) (s .pre .0 .2) (s .pre .1 .1 .0) (s .pre .1 .1 .1) f in
+    ((omega arith, omega arith, s .pre .0 .0), (parts-as (s .pre .1 .0) (f .size), (d .0, rows-bounded _ (d .1) (omega arith)))))
     (λ c. search needs)
-    (λ c. let s = c .before .before .before .before .before .before in let e = s .pre .0 .0 in rw e (steps-undone (s .args .kernel) (rw e at (c .before .before .before .before .second-step .ensures)) (rw e at (c .before .first-step .ensures)))))
+    (λ c. let s = c .before .before .before .before .before .before in steps-undone (s .args .kernel) (s .pre .0 .1) (s .pre .0 .2) (c .before .before .before .before .second-step .ensures) (c .before .first-step .ensures)))

@@ -9,8 +9,8 @@ use Rattle.lifting.proofs.forward.Tie as tie
 pub forward-spec : {M : Type 1} → statement M
 forward-spec =
     tie.close (tie.spec
-    (λ c κs. let s = c .before in ((omega arith, omega (arith, s .pre .0), omega arith), (s .pre .1 .0, (bounded-more (s .pre .1 .1 .0) (omega arith), rows-bounded _ (bounded-more (s .pre .1 .1 .1) (omega arith)) (omega arith)))))
-    (λ c κs. let s = c .before .before .before .before in let a = s .args in let e = s .pre .0 .0 in let f = c .before .before .first-step .ensures in let d = done-bounded (a .kernel) (rw e at (s .pre .1 .1 .0)) (s .pre .1 .1 .1) (rw e at f) in
-    ((omega arith, omega (arith, s .pre .0), omega arith), (parts-as (s .pre .1 .0) (f .size), rw e (takes-all (a .highs) (d .0) (d .1) (omega arith) (omega arith) (a .kernel)))))
+    (λ c κs. let s = c .before in ((omega arith, omega arith, s .pre .0 .0), (s .pre .1 .0, (bounded-more (s .pre .1 .1 .0) (omega arith), rows-bounded _ (bounded-more (s .pre .1 .1 .1) (omega arith)) (omega arith)))))
+    (λ c κs. let s = c .before .before .before .before in let a = s .args in let f = c .before .before .first-step .ensures in let d = done-bounded (a .kernel) (s .pre .0 .1) (s .pre .1 .1 .0) (s .pre .1 .1 .1) f in
+    ((omega arith, omega arith, s .pre .0 .2, s .pre .0 .0), (parts-as (s .pre .1 .0) (f .size), takes-all (a .lows) (d .0) (d .1) (omega arith) (a .kernel))))
     (λ c. search needs)
-    (λ c. let s = c .before .before .before .before .before .before in let e = s .pre .0 .0 in rw e (steps-done (s .args .kernel) (rw e at (c .before .before .before .before .first-step .ensures)) (rw e at (c .before .second-step .ensures)))))
+    (λ c. let s = c .before .before .before .before .before .before in steps-done (s .args .kernel) (s .pre .0 .1) (s .pre .0 .2) (c .before .before .before .before .first-step .ensures) (c .before .second-step .ensures)))

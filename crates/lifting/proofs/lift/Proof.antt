@@ -43,11 +43,11 @@ lift-spec =
     (λ c. search needs)
     (λ c. omega arith)
     (λ c κs. let t = c .before in let s = t .before .before .before .before .before .before in let r = between t in
-    ((r .0, omega (arith, r, s .pre .0)), (parts-fewer _ (s .args .m) (s .pre .1 .0) (omega (arith, r)) (omega arith), (s .pre .1 .1 .0, fit-part (s .args .a) _ (s .pre .1 .1 .1) (omega arith) (omega (arith, r))))))
+    ((r .0, s .pre .0 .1, omega (arith, r, s .pre .0)), (parts-fewer _ (s .args .m) (s .pre .1 .0) (omega (arith, r)) (omega arith), (s .pre .1 .1 .0, fit-part (s .args .a) _ (s .pre .1 .1 .1) (omega arith) (omega (arith, r))))))
     (λ c. omega (arith, between (c .before .before .before .before)))
     (λ c κs. let t = c .before .before .before .before in let s = t .before .before .before .before .before .before in let a = s .args in let r = between t in let g = s .pre .1 .0 in let f = c .before .before .lift-each3 .ensures in
     let p = t .before .before .before .most .result in let q = t .before .before .least .result - t .before .before .before .before .look-ahead .result in let top : p ≤ a .b = omega (arith, r) in (
-      (omega (arith, r), omega (arith, r, s .pre .0)),
+      (omega (arith, r), s .pre .0 .1, omega (arith, r, s .pre .0)),
       (
         parts-fewer _ (a .m) (parts-more g top f) (omega (arith, r)) (omega arith),
         (
@@ -64,14 +64,14 @@ lift-spec =
     ))
     (λ c κs. let t = c .before .before .before .before .before .before .before in let s = t .before .before .before .before .before .before in let a = s .args in let r = between t in let g = s .pre .1 .0 in let f = most (c .before .before) in
     let q = t .before .before .least .result - t .before .before .before .before .look-ahead .result in let top = r .2 in (
-      (r .2, s .pre .0 .1),
+      (r .2, s .pre .0 .1, s .pre .0 .2),
       (
         parts-more g top f,
         (
           bounded-other g top f (s .pre .1 .1 .0),
-          fit-more g top f q (a .b) (omega arith) (s .pre .0 .1) (fit-part q (a .b) (s .pre .1 .1 .1) (omega (arith, r)) (omega arith)),
+          fit-more g top f q (a .b) (omega arith) (s .pre .0 .2) (fit-part q (a .b) (s .pre .1 .1 .1) (omega (arith, r)) (omega arith)),
         ),
       ),
     ))
     (λ c. search needs)
-    (λ c. let t = c .before .before .before .before .before .before .before .before .before in let s = t .before .before .before .before .before .before in let r = between t in lift-join (s .pre .1 .0) (r .2) (most (c .before .before .before .before)) _ (omega (arith, r)) (r .2) (s .pre .0 .1) (c .before .lift-each4 .ensures)))
+    (λ c. let t = c .before .before .before .before .before .before .before .before .before in let s = t .before .before .before .before .before .before in let r = between t in lift-join (s .pre .1 .0) (r .2) (most (c .before .before .before .before)) _ (omega (arith, r)) (r .2) (s .pre .0 .2) (c .before .lift-each4 .ensures)))

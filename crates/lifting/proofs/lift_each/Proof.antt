@@ -21,7 +21,7 @@ lift-each-spec =
     μ-loop
     (λ c. (omega arith, omega (arith, c .pre .0), lift-none _ _ _ _ _ _ _ _ _))
     (λ c κs. let s = c .before .before .before in let a = s .args in let i = c .before .before .loop .inv in let n = c .before .before .loop .n in let g = s .pre .1 .0 in let top : n ≤ a .b = omega arith in (
-      (omega arith, omega (arith, s .pre .0)),
+      (omega arith, s .pre .0 .1, omega (arith, s .pre .0)),
       (
         parts-fewer (n + 1) (a .m) (parts-more g top (i .2)) (omega arith) (omega arith),
         (

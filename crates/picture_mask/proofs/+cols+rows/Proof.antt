@@ -1,12 +1,14 @@
 -- `picture_mask::rows` and `picture_mask::cols` walk the levels. The measure is twice the levels left, and one more in `rows`. Assumes nothing.
 use mathlib.Core.Path.{sym, ap, _∙_}
-use Prim.Native.Nat.{ℕ, _+_, _-_, _/_, _<_}
+use Prim.Native.Nat.{ℕ, _+_, _-_, _<_}
 use native.Mathlib.Omega.{arith}
 use borrow.Fn.Kinds.{In}
 use borrow.Fn.PlainCycle.{Measures, is, falls, and}
+use Rattle.line.specs.Cells.{lowSide}
 use Rattle.grid.specs.Picture.{colPass, walk}
-use Rattle.grid.proofs.Levels.{walk-none, walk-more, halves-more}
+use Rattle.grid.proofs.Levels.{walk-none, walk-more}
 use Rattle.picture_mask.specs.Areas.{maskLineBytes}
+use Rattle.picture_mask.proofs.Taking.{low-count}
 use Rattle.picture_mask.proofs.Running.{rows-area, cols-area, area-low}
 use Rattle.picture_mask.proofs.cols.Reads as cols
 use Rattle.picture_mask.proofs.cols.Kinds as cols-kinds
@@ -41,27 +43,27 @@ pub +cols+rows-spec : {M : Type 1} → statement M
 +cols+rows-spec =
     close μ-cols μ-rows
     (λ t. cols-lts.spec (col-pass-reads.Asked, col-pass-reads.Learnt, rows-below t, rows.Post) (cols-at t) cols.Post
-    (λ c κs. let s = c .before .before .before .before .before in let a = s .args in let p = s .pre .1 in
-    (p .1 .0, (halves-more (a .levels) (a .w) (a .h) (p .0) (p .1 .1 .0) .1, p .1 .1 .1)))
+    (λ c κs. let p = c .before .before .before .before .before .pre .1 in (p .1 .0, p .1 .1 .0))
+    (λ c. omega arith)
+    (λ c. omega arith)
     (λ c. c .before .before .before .before .before .before .before .before .before .before .before .before .before .pre .1 .0)
     (λ c κs. let s = c .before .before .before .before .before .before .before .before .before .before .before .before .before in let a = s .args in let p = s .pre .1 in let r = c .before .before .before .before .before .before .before .col-pass in let k = r .kept in
-    let e = halves-more (a .levels) (a .w) (a .h) (p .0) (p .1 .1 .0) in
-    (omega (arith, s .pre .0, p .0), (area-low (cols-area _ (p .1 .0) (k .1 .0) (a .kernel) (a .w) (r .ensures)) (e .0) (e .1), (e .2, rw (k .1 .1 .0) (p .1 .1 .1), p .1 .1 .2))))
+    (omega (arith, s .pre .0, p .0), (rw (low-count (a .w), low-count (a .h)) (area-low (cols-area _ (p .1 .0) (k .1 .0) (a .kernel) (a .w) (r .ensures))), (rw (k .1 .1 .0) (p .1 .1 .0), p .1 .1 .1))))
     (λ c. c .before .before .before .before .before .before .rows .kept .1 .0 ∙ c .before .before .before .before .before .before .before .before .before .before .before .before .before .before .col-pass .kept .1 .0)
     (λ c. c .before .before .before .before .before .before .rows .kept .1 .1 .0 ∙ c .before .before .before .before .before .before .before .before .before .before .before .before .before .before .col-pass .kept .1 .1 .0)
     (λ c. c .before .before .before .before .before .before .rows .kept .1 .1 .1 .0)
     (λ c. let a = c .before .before .before .before .before .before .before .before .before .before .before .before .before .before .before .before .before .before .before .before .args in
-    c .before .before .before .before .before .before .rows .ensures ∙ ap (walk (maskLineBytes (a .kernel)) (a .levels - 1) (a .w / 2) (a .h / 2)) (c .before .before .before .before .before .before .before .before .before .before .before .before .before .before .col-pass .ensures)))
+    (rw (low-count (a .w), low-count (a .h)) at (c .before .before .before .before .before .before .rows .ensures))
+    ∙ ap (walk (maskLineBytes (a .kernel)) (a .levels - 1) (lowSide (a .w)) (lowSide (a .h))) (c .before .before .before .before .before .before .before .before .before .before .before .before .before .before .col-pass .ensures)))
     (λ t. rows-lts.spec (row-pass-reads.Asked, row-pass-reads.Learnt, cols-below t, cols.Post) (rows-at t) rows.Post
-    (λ c κs. let s = c .before .before .before .before .before .before in let a = s .args in let p = s .pre .1 in
-    (p .0, (halves-more (a .levels) (a .w) (a .h) (c .before .before .if1 .taken) (p .1 .0) .0, p .1 .2)))
+    (λ c κs. let p = c .before .before .before .before .before .before .pre .1 in (p .0, p .1 .1))
     (λ c κs. let s = c .before .before .before .before .before .before .before .before .before .before .before .before .before .before in let a = s .args in let p = s .pre .1 in let r = c .before .before .before .before .before .before .before .row-pass in let k = r .kept in
-    (omega (arith, s .pre .0), (c .before .before .before .before .before .before .before .before .before .before .if1 .taken, (rows-area _ (p .0) (k .1 .0) (a .kernel) (a .h) (r .ensures), (p .1 .0, p .1 .1, rw (k .1 .1 .0) (p .1 .2))))))
+    (omega (arith, s .pre .0), (c .before .before .before .before .before .before .before .before .before .before .if1 .taken, (rows-area _ (p .0) (k .1 .0) (a .kernel) (a .h) (r .ensures), (p .1 .0, rw (k .1 .1 .0) (p .1 .1))))))
     (λ c. c .before .before .before .before .before .before .cols .kept .1 .0 ∙ c .before .before .before .before .before .before .before .before .before .before .before .before .before .before .row-pass .kept .1 .0)
     (λ c. c .before .before .before .before .before .before .cols .kept .1 .1 .0)
     (λ c. c .before .before .before .before .before .before .cols .kept .1 .1 .1 .0 ∙ c .before .before .before .before .before .before .before .before .before .before .before .before .before .before .row-pass .kept .1 .1 .0)
     (λ c. let a = c .before .before .before .before .before .before .before .before .before .before .before .before .before .before .before .before .before .before .before .before .before .args in let T = maskLineBytes (a .kernel) in
     c .before .before .before .before .before .before .cols .ensures
-    ∙ ap (λ P. walk T (a .levels - 1) (a .w / 2) (a .h / 2) (colPass T (a .w) (a .h) P)) (c .before .before .before .before .before .before .before .before .before .before .before .before .before .before .row-pass .ensures)
+    ∙ ap (λ P. walk T (a .levels - 1) (lowSide (a .w)) (lowSide (a .h)) (colPass T (a .w) (a .h) P)) (c .before .before .before .before .before .before .before .before .before .before .before .before .before .before .row-pass .ensures)
     ∙ sym (walk-more T (a .levels) (a .w) (a .h) _ (c .before .before .before .before .before .before .before .before .before .before .before .before .before .before .before .before .before .if1 .taken)))
     (λ c. walk-none _ _ _ _ _ (c .if1 .left)))

@@ -32,11 +32,11 @@ col-pass-spec =
     (λ c. omega arith)
     (λ c κs. search needs)
     (λ c κs. let s = c .before .before .before .before .before .before .before in let l = c .before .before .before .before .loop in let n = lanes (c .before .before) in let z = cols-now (s .args .kernel) (s .pre .0) (l .inv .0) in
-    (col-in z (l .x) _ (n .0) (n .2), (col-strip z (s .pre .1 .0) _ (omega (arith, s .pre .1 .1, l .inv .1)) _ (n .1), z .marks)))
+    (col-in z (l .x) _ (n .0) (n .2), (col-strip z _ (omega (arith, s .pre .1, l .inv .1)) _ (n .1), z .marks)))
     (λ c. omega (arith, lanes (c .before .before .before .before .before .before .before)))
     (λ c. omega (arith, lanes (c .before .before .before .before .before .before .before)))
     (λ c. let s = c .before .before .before .before .before .before .before .before .before .before .before .before in let l = c .before .before .before .before .before .before .before .before .before .loop in let r = c .before .before .before .before .columns in
-    (cols-more (bytes-local (s .args .kernel)) (s .pre .0 .wide) _ (s .pre .1 .0) (l .inv .0) (lanes (c .before .before .before .before .before .before .before) .2) (r .ensures), r .kept .1 .1 .0 ∙ l .inv .1))
+    (cols-more (bytes-local (s .args .kernel)) (s .pre .0 .wide) _ (l .inv .0) (lanes (c .before .before .before .before .before .before .before) .2) (r .ensures), r .kept .1 .1 .0 ∙ l .inv .1))
     (λ c. c .before .loop .inv .0 .same)
     (λ c. c .before .loop .inv .1)
     (λ c. let l = c .before .loop in let e : l .x ≡ c .before .before .before .before .args .w = omega (arith, l .inv .0 .count) in ap turned (rw e at (l .inv .0 .passed))))

@@ -6,11 +6,11 @@ use native.Mathlib.Nat.{mul-comm}
 use borrow.Author.Needs.{needs}
 use lib.Dec.{leb}
 use Rattle.kernel.proofs.Numbers.{known, unknown}
-use Rattle.refusal.specs.Tests.{badSizeAt}
+use Rattle.refusal.specs.Tests.{badSize}
 use Rattle.refusal.proofs.Ordered.{ordered, refused, done}
-use Rattle.refusal.proofs.Passed.{inside, multiples, area}
+use Rattle.refusal.proofs.Passed.{Sides, inside, sides, area}
 use Rattle.picture_mask.specs.Areas.{Binary}
-use Rattle.picture_mask.proofs.Entry.{region-binary, sides-even, placed-marks, mask-of-placed}
+use Rattle.picture_mask.proofs.Entry.{region-binary, placed-marks, mask-of-placed}
 use Rattle.picture_mask.proofs.mask.Statement.{statement}
 use Rattle.picture_mask.proofs.mask.Tie as tie
 
@@ -22,8 +22,11 @@ few c = known (c .before .before .before .before .before .args .kernel) _ (sym (
 levels : (c : tie.After-place-arg) → 0 < c .before .before .before .before .before .before .before .before .before .before .before .before .before .before .before .args .levels
 levels c = inside 1 5 (c .before .before .before .before .before .before .before .before .before .before .before .before .before .before .before .args .levels) (sym (c .before .before .before .before .before .before .before .before .bad-levels .ensures) ∙ c .before .before .before .before .before .before .before .if1 .left) .0
 
-size : (c : tie.After-place-arg) → let a = c .before .before .before .before .before .before .before .before .before .before .before .before .before .before .before .args in badSizeAt (a .levels) (a .w) (a .h) ≡ false
-size c = sym (c .before .before .before .before .before .before .bad-size-at .ensures) ∙ c .before .before .before .before .before .if2 .left
+size : (c : tie.After-place-arg) → let a = c .before .before .before .before .before .before .before .before .before .before .before .before .before .before .before .args in badSize (a .w) (a .h) ≡ false
+size c = sym (c .before .before .before .before .before .before .bad-size .ensures) ∙ c .before .before .before .before .before .if2 .left
+
+extent : (c : tie.After-place-arg) → let a = c .before .before .before .before .before .before .before .before .before .before .before .before .before .before .before .args in Sides (a .w) (a .h)
+extent c = sides _ _ (size c)
 
 binary : (c : tie.After-place-arg) → Binary (c .before .before .before .before .before .before .before .before .before .before .before .before .before .before .before .args .region .now)
 binary c = region-binary _ (sym (c .before .before .bad-mark .ensures) ∙ c .before .if5 .left)
@@ -37,21 +40,21 @@ mask-spec =
     (λ c. let h = unknown (c .before .before .before .before .before .args .kernel) (sym (c .before .before .new .ensures) ∙ c .enum-told .given .1) in refused _ (search ordered depth 20 fits 3000))
     (λ c κs. search needs)
     (λ c. let h = few (c .before .before .before) in refused _ (search ordered depth 20 fits 3000))
-    (λ c κs. inside 1 5 (c .before .before .before .before .before .before .before .before .args .levels) (sym (c .before .bad-levels .ensures) ∙ c .if1 .left) .1)
+    (λ c κs. search needs)
     (λ c. let h = few (c .before .before .before .before .before) in refused _ (search ordered depth 20 fits 3000))
-    (λ c. let a = c .before .before .before .before .before .before .before .before .before .before .args in area (multiples (a .levels) (a .w) (a .h) (sym (c .before .bad-size-at .ensures) ∙ c .if2 .left) .0))
+    (λ c. area (sides _ _ (sym (c .before .bad-size .ensures) ∙ c .if2 .left)))
     (λ c. let h = few (c .before .before .before .before .before .before) in refused _ (search ordered depth 20 fits 3000))
     (λ c. search needs)
     (λ c. let h = few (c .before .before .before .before .before .before .before) in refused _ (search ordered depth 20 fits 3000))
     (λ c κs. search needs)
     (λ c. let h = few (c .before .before .before .before .before .before .before .before .before) in refused _ (search ordered depth 20 fits 3000))
     (λ c κs. let a = c .before .before .before .before .before .before .before .before .before .before .before .before .before .before .before .args in
-    (sides-even (a .levels) (a .w) (a .h) (levels c) (size c), (c .before .before .before .before .if3 .left ∙ mul-comm (a .w) (a .h), c .before .before .before .if4 .left ∙ mul-comm (a .w) (a .h))))
+    ((extent c .width .1, extent c .height .1), (c .before .before .before .before .if3 .left ∙ mul-comm (a .w) (a .h), c .before .before .before .if4 .left ∙ mul-comm (a .w) (a .h))))
     (λ c κs. let p = c .before .before .before .before in let a = c .before .before .before .before .before .before .before .before .before .before .before .before .before .before .before .before .before .before .before .args in record {
       levels = levels p;
       size = size p;
       full = c .before .before .before .place .kept .1 .0 ∙ c .before .before .before .before .before .before .before .if4 .left;
-      marks = placed-marks (a .levels) (a .w) (a .h) (a .region .now) _ (levels p) (size p) (binary p) (c .before .before .before .place .ensures);
+      marks = placed-marks (a .w) (a .h) (a .region .now) _ (extent p .width .0) (binary p) (c .before .before .before .place .ensures);
     })
     (λ c. search needs)
     (λ c. let k = c .before .before .before .before .before .before .before .before .before .before .before .before .before .before .before .before .before .chosen in let h = few (c .before .before .before .before .before .before .before .before .before .before .before .before .before .before .before .before .before) in let a = c .before .before .before .before .before .before .before .before .before .before .before .before .before .before .before .before .before .before .before .before .before .before .args in

@@ -5,8 +5,9 @@ use native.Mathlib.Omega.{arith}
 use borrow.Author.Needs.{needs}
 use lib.ListN.{length-replicate}
 use Rattle.picture_mask.specs.Areas.{Whole}
+use Rattle.picture_mask.proofs.Taking.{low-count}
 use Rattle.picture_mask.proofs.Running.{rows-whole, cols-whole}
-use Rattle.picture_mask.proofs.Entry.{region-whole, region-more, low-area, mask-result}
+use Rattle.picture_mask.proofs.Entry.{region-whole, low-area, mask-result}
 use Rattle.picture_mask.proofs.mask_levels.Statement.{statement}
 use Rattle.picture_mask.proofs.mask_levels.Tie as tie
 
@@ -27,10 +28,13 @@ mask-levels-spec =
     (λ c κs. after-rows (c .before .before .before))
     (λ c. search needs)
     (λ c. search needs)
+    (λ c. omega arith)
+    (λ c. omega arith)
     (λ c. omega (arith, c .before .before .before .before .before .before .before .before .before .before .before .before .pre .levels))
     (λ c κs. let s = c .before .before .before .before .before .before .before .before .before .before .before .before in let n = length-replicate {A = ℕ} 32768 0 in let m = length-replicate {A = ℕ} 1024 0 in
-    (low-area (s .args .levels) _ _ _ (s .pre) _ (after-cols (c .before .before .before .before .before)), (region-more _ _ _ _ (s .pre) .2, omega arith, omega arith)))
+    (rw (low-count (s .args .w), low-count (s .args .h)) (low-area (s .args .levels) _ _ _ (s .pre) _ (after-cols (c .before .before .before .before .before))), (omega arith, omega arith)))
     (λ c. search needs)
     (λ c. let s = c .before .before .before .before .before .before .before .before .before .before .before .before .before .before .before .before .before in
     mask-result (s .args .levels) _ _ _ (s .pre) (s .args .kernel) _ _ _ (c .before .before .before .before .rows .kept .1 .0 ∙ c .before .before .before .before .before .before .before .before .before .before .placed-cols .kept .1 .0 ∙ c .before .before .before .before .before .before .before .before .before .before .before .before .before .before .placed-rows .kept .1 .0)
-    (c .before .before .before .before .before .before .before .before .before .before .before .before .before .before .placed-rows .ensures) (c .before .before .before .before .before .before .before .before .before .before .placed-cols .ensures) (c .before .before .before .before .rows .ensures)))
+    (c .before .before .before .before .before .before .before .before .before .before .before .before .before .before .placed-rows .ensures) (c .before .before .before .before .before .before .before .before .before .before .placed-cols .ensures)
+    (rw (low-count (s .args .w), low-count (s .args .h)) at (c .before .before .before .before .rows .ensures))))

@@ -35,11 +35,11 @@ draw-placed-spec =
     (λ c. omega arith)
     (λ c. omega arith)
     (λ c κs. let s = c .before .before .before .before .before .before .before .before .before .before .before .before .before in let l = c .before .before .before .before .before .before .loop in
-    ((s .pre .right (l .r) (omega arith), s .pre .bottom (l .r) (omega arith)), (s .pre .even-w, s .pre .even-h, l .inv .size ∙ c .before .before .before .before .before .before .before .before .before .clear .ensures .size ∙ s .pre .full)))
+    ((s .pre .right (l .r) (omega arith), s .pre .bottom (l .r) (omega arith)), (l .inv .size ∙ c .before .before .before .before .before .before .before .before .before .clear .ensures .size ∙ s .pre .full)))
     (λ c. omega arith)
     (λ c. omega arith)
     (λ c. let s = c .before .before .before .before .before .before .before .before .before .before .before .before .before .before .before .before in let l = c .before .before .before .before .before .before .before .before .before .loop in let d = c .before .before .rectangle-placed .ensures in
     painted-more (l .inv) (omega arith) (d .size)
-    (λ i h. placed-box _ _ _ (s .args .w) (s .args .h) (s .pre .even-w) (s .pre .even-h) d i (omega (arith, c .before .before .before .before .before .before .before .before .before .before .before .before .clear .ensures .size, s .pre .full))))
+    (λ i h. placed-box _ _ _ (s .args .w) (s .args .h) d i (omega (arith, c .before .before .before .before .before .before .before .before .before .before .before .before .clear .ensures .size, s .pre .full))))
     (λ c. c .before .loop .inv .size ∙ c .before .before .before .before .clear .ensures .size)
     (λ c. let s = c .before .before .before .before .before .before .before .before in region-placed (s .pre) (painted-all (c .before .loop .inv) (omega arith) (sym (c .before .before .before .before .clear .ensures .size)))))

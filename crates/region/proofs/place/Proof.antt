@@ -10,5 +10,5 @@ place-spec =
     tie.close (tie.spec
     (λ c. search needs)
     (λ c. search needs)
-    (λ c. let a = c .before .args in place-even (a .side) (c .before .pre .0) (a .n) (omega arith))
-    (λ c. let a = c .before .args in place-odd (a .side) (c .before .pre .0) (a .n) (omega arith)))
+    (λ c. let a = c .before .args in place-even (a .side) (a .n) (omega arith))
+    (λ c. let a = c .before .args in place-odd (a .side) (a .n) (omega arith)))

@@ -19,8 +19,8 @@ abbrev μ-loop : tie.MeasureT-loop
 row : (c : tie.After-place Inv-loop μ-loop) → let a = c .before .before .before .before .args in c .place .result * a .w + a .w ≤ length (c .before .before .loop .region)
 row c =
     let s = c .before .before .before .before in let a = s .args in let l = c .before .before .loop in
-    let p = place-lt (a .h) (s .pre .1 .1) (a .y + l .k) (omega arith) in
-    omega (arith, s .pre .1 .2, l .inv .1 .size, mul-le-mul-right {m = c .place .result + 1} {n = a .h} (a .w) (omega (arith, c .place .ensures)))
+    let p = place-lt (a .h) (a .y + l .k) (omega arith) in
+    omega (arith, s .pre .1, l .inv .1 .size, mul-le-mul-right {m = c .place .result + 1} {n = a .h} (a .w) (omega (arith, c .place .ensures)))
 
 pub rectangle-placed-spec : {M : Type 1} → statement M
 rectangle-placed-spec =
@@ -29,9 +29,9 @@ rectangle-placed-spec =
     μ-loop
     (λ c. omega arith)
     (λ c. omega arith)
-    (λ c. let s = c .before in let a = s .args in (omega arith, placed-none (a .x) (a .y) (a .across) (a .w) (a .h) (s .pre .1 .0) (s .pre .1 .1) _))
+    (λ c. let s = c .before in let a = s .args in (omega arith, placed-none (a .x) (a .y) (a .across) (a .w) (a .h) _))
     (λ c. omega arith)
-    (λ c κs. ((c .before .before .before .pre .1 .1), omega arith))
+    (λ c κs. omega arith)
     (λ c. omega (arith, row c))
     (λ c. omega (arith, row (c .before)))
     (λ c. omega (arith, row (c .before)))
@@ -46,7 +46,7 @@ rectangle-placed-spec =
     (λ c. omega arith)
     (λ c. let s = c .before .before .before .before .before .before .before .before .before .before .before .before in let a = s .args in let l = c .before .before .before .before .before .before .before .before .before .before .loop in let e = c .before .before .before .before .before .before .before .before .place .ensures in (
       omega arith,
-      placed-more (a .x) (a .y) (a .across) (a .w) (a .h) (s .pre .1 .0) (s .pre .1 .1) (l .k) (s .pre .0 .0) (omega arith) (l .inv .1)
+      placed-more (a .x) (a .y) (a .across) (a .w) (a .h) (l .k) (s .pre .0 .0) (omega arith) (l .inv .1)
           (rw e at (c .before .before .before .before .before .before .fill .ensures)) (rw e at (c .before .before .fill2 .ensures)),
     ))
     (λ c. c .before .loop .inv .1 .size)

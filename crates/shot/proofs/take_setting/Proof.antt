@@ -6,7 +6,6 @@ use lib.Dec.{leb}
 use Rattle.kernel.specs.Kernels.{theKernel}
 use Rattle.kernel.proofs.Numbers.{known, unknown}
 use Rattle.refusal.proofs.Ordered.{ordered}
-use Rattle.refusal.proofs.Passed.{inside}
 use Rattle.shot.proofs.Settings.{set-refused, set-taken}
 use Rattle.shot.proofs.take_setting.Statement.{statement}
 use Rattle.shot.proofs.take_setting.Tie as tie
@@ -26,6 +25,6 @@ take-setting-spec =
     (λ c. let h = few (c .before .before .before) .0 in set-refused _ _ _ _ _ _ (search ordered depth 20 fits 3000))
     (λ c κs. search needs)
     (λ c. let h = few (c .before .before .before .before .before) .0 in set-refused _ _ _ _ _ _ (search ordered depth 20 fits 3000))
-    (λ c κs. inside 1 5 (c .before .before .before .before .before .before .before .before .args .levels) (sym (c .before .before .before .bad-levels .ensures) ∙ c .before .before .if1 .left) .1)
+    (λ c κs. search needs)
     (λ c. let h = few (c .before .before .before .before .before .before .before) .0 in set-refused _ _ _ _ _ _ (search ordered depth 20 fits 3000))
     (λ c. let h = few (c .before .before .before .before .before .before .before) .0 in set-taken _ _ _ _ _ _ (search ordered depth 20 fits 3000) (few (c .before .before .before .before .before .before .before) .1)))

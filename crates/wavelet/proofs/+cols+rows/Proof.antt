@@ -7,8 +7,10 @@ use lib.IntN.{ℤ}
 use borrow.Fn.Kinds.{In}
 use borrow.Fn.PlainCycle.{Measures, is, falls, and}
 use Rattle.line.specs.Transform.{forward}
-use Rattle.grid.specs.Picture.{Picture, colPass, lowSide, walk}
+use Rattle.line.specs.Cells.{lowSide}
+use Rattle.grid.specs.Picture.{Picture, colPass, walk}
 use Rattle.grid.proofs.Levels.{walk-none, walk-more}
+use Rattle.passes.proofs.Running.{low-left}
 use Rattle.wavelet.specs.Wavelet.{coefficientsOf}
 use Rattle.wavelet.proofs.Walking as walking
 use Rattle.wavelet.proofs.Walking.{levels-same, level-area, levels-more, rows-take, cols-take}
@@ -44,17 +46,19 @@ rows-below t = and 2 rows-kinds.ps (falls 2 rows-kinds.ps _<_ μ-rows t) rows.Pr
 pub +cols+rows-spec : {M : Type 1} → statement M
 +cols+rows-spec = close μ-cols μ-rows
     (λ t. cols-lts.spec (col-pass-reads.Asked, col-pass-reads.Learnt, rows-below t, rows.Post) (cols-at t) cols.Post
-    (λ c κs. let s = c .before .before in let z = s .pre .1 .1 .0 in (level-area z (s .pre .1 .0), (s .pre .1 .1 .1 .0, cols-take (s .pre .1 .0) (z .few) (s .pre .1 .1 .1 .1))))
+    (λ c κs. let s = c .before .before in let z = s .pre .1 .1 .0 in (level-area z, (s .pre .1 .1 .1 .0, cols-take (s .pre .1 .0) (z .few) (s .pre .1 .1 .1 .1))))
+    (λ c. omega arith)
+    (λ c. omega arith)
     (λ c. c .before .before .before .before .before .before .before .pre .1 .0)
-    (λ c κs. let s = c .before .before .before .before .before .before .before in let z = s .pre .1 .1 .0 in let n = s .pre .1 .0 in let p = c .before .before .before .before .col-pass in let k = p .kept .1 in
-    (omega (arith, s .pre .0, n), (levels-more (levels-same z (k .0)) n, (omega (arith, k .1 .0, s .pre .1 .1 .1 .0), walking.cols-below n (z .few) (s .args .kernel) (level-area z n .even-h) (s .pre .1 .1 .1 .1) (p .ensures)))))
+    (λ c κs. let s = c .before .before .before .before .before .before .before in let a = s .args in let z = s .pre .1 .1 .0 in let n = s .pre .1 .0 in let p = c .before .before .before .before .col-pass in let k = p .kept .1 in
+    rw (low-left (a .w), low-left (a .h)) (omega (arith, s .pre .0, n), (levels-more (levels-same z (k .0)) n, (omega (arith, k .1 .0, s .pre .1 .1 .1 .0), walking.cols-below n (z .few) (s .args .kernel) (s .pre .1 .1 .1 .1) (p .ensures)))))
     (λ c. c .before .before .rows .kept .1 .0 ∙ c .before .before .before .before .before .before .before .col-pass .kept .1 .0)
     (λ c. c .before .before .rows .kept .1 .1 .0 ∙ c .before .before .before .before .before .before .before .col-pass .kept .1 .1 .0)
-    (λ c. let a = c .before .before .before .before .before .before .before .before .before .before .args in c .before .before .rows .ensures ∙ ap (walk (forward (a .kernel)) (a .levels - 1) (lowSide (a .w)) (lowSide (a .h))) (c .before .before .before .before .before .before .before .col-pass .ensures)))
+    (λ c. let a = c .before .before .before .before .before .before .before .before .before .before .args in rw (low-left (a .w), low-left (a .h)) at (c .before .before .rows .ensures) ∙ ap (walk (forward (a .kernel)) (a .levels - 1) (lowSide (a .w)) (lowSide (a .h))) (c .before .before .before .before .before .before .before .col-pass .ensures)))
     (λ t. rows-lts.spec (row-pass-reads.Asked, row-pass-reads.Learnt, cols-below t, cols.Post) (rows-at t) rows.Post
-    (λ c κs. let s = c .before .before .before in let z = s .pre .1 .0 in let n = c .before .before .if1 .taken in (level-area z n, (omega (arith, z .w-most, s .pre .1 .1 .0), rows-take n (z .few) (s .pre .1 .1 .1))))
+    (λ c κs. let s = c .before .before .before in let z = s .pre .1 .0 in let n = c .before .before .if1 .taken in (level-area z, (omega (arith, z .w-most, s .pre .1 .1 .0), rows-take n (z .few) (s .pre .1 .1 .1))))
     (λ c κs. let s = c .before .before .before .before .before .before .before .before in let z = s .pre .1 .0 in let n = c .before .before .before .before .before .before .before .if1 .taken in let p = c .before .before .before .before .row-pass in let k = p .kept .1 in
-    (omega (arith, s .pre .0), (n, (levels-same z (k .0), (omega (arith, k .1 .0, s .pre .1 .1 .0), walking.rows-below n (z .few) (s .args .kernel) (level-area z n .even-w) (s .pre .1 .1 .1) (p .ensures))))))
+    (omega (arith, s .pre .0), (n, (levels-same z (k .0), (omega (arith, k .1 .0, s .pre .1 .1 .0), walking.rows-below n (z .few) (s .args .kernel) (s .pre .1 .1 .1) (p .ensures))))))
     (λ c. c .before .before .cols .kept .1 .0 ∙ c .before .before .before .before .before .before .before .row-pass .kept .1 .0)
     (λ c. c .before .before .cols .kept .1 .1 .0 ∙ c .before .before .before .before .before .before .before .row-pass .kept .1 .1 .0)
     (λ c. let a = c .before .before .before .before .before .before .before .before .before .before .before .args in let T = forward (a .kernel) in

@@ -6,8 +6,10 @@ use native.Mathlib.Omega.{arith}
 use borrow.Author.Needs.{needs}
 use Rattle.line.specs.Transform.{forward}
 use Rattle.line.proofs.Bounds.{within-more}
-use Rattle.grid.specs.Picture.{lowSide, walk}
+use Rattle.line.specs.Cells.{lowSide}
+use Rattle.grid.specs.Picture.{walk}
 use Rattle.grid.proofs.Levels.{walk-more}
+use Rattle.passes.proofs.Running.{low-left}
 use Rattle.wavelet.specs.Wavelet.{samplesOf}
 use Rattle.wavelet.proofs.Walking.{level-area, levels-more, first-take, first-below}
 use Rattle.wavelet.proofs.Entries.{filled, sized-levels, area-below}
@@ -18,17 +20,19 @@ pub transform-all-spec : {M : Type 1} → statement M
 transform-all-spec =
     tie.close (tie.spec
     (λ c κs. let s = c .before .before in let a = s .args in let z = s .pre .0 in (
-      level-area (sized-levels z refl) (z .some),
+      level-area (sized-levels z refl),
       (
         (omega (arith, z .to, mul-comm (a .w) (a .h)), omega (arith, z .from, mul-comm (a .w) (a .h))),
-        ((λ y p x q. within-more (s .pre .1 .each y x p q) (omega arith)), first-take (a .kernel) (z .some) (z .few) (z .halves) (area-below (z .few) (s .pre .1) refl)),
+        ((λ y p x q. within-more (s .pre .1 .each y x p q) (omega arith)), first-take (a .kernel) (z .some) (z .few) (area-below (z .few) (s .pre .1) refl)),
       ),
     ))
     (λ c. search needs)
+    (λ c. omega arith)
+    (λ c. omega arith)
     (λ c. c .before .before .before .before .before .before .pre .0 .some)
     (λ c κs. let s = c .before .before .before .before .before .before in let a = s .args in let z = s .pre .0 in let d = c .before .before .before .level-in in
-    (levels-more (sized-levels z (d .kept .1 .1 .0)) (z .some), (search needs, first-below (a .kernel) (z .some) (z .few) (z .halves) (area-below (z .few) (s .pre .1) refl) (d .ensures))))
+    rw (low-left (a .w), low-left (a .h)) (levels-more (sized-levels z (d .kept .1 .1 .0)) (z .some), (search needs, first-below (a .kernel) (z .some) (z .few) (area-below (z .few) (s .pre .1) refl) (d .ensures))))
     (λ c. search needs)
     (λ c. let s = c .before .before .before .before .before .before .before .before .before in let a = s .args in let z = s .pre .0 in let d = c .before .before .before .before .before .before .level-in in let u = c .before .before .rows in let T = forward (a .kernel) in
     filled (a .w) (a .h) (a .plane .now) _ _ (u .kept .1 .0 ∙ d .kept .1 .1 .0) (z .to)
-    (u .ensures ∙ ap (walk T (a .levels - 1) (lowSide (a .w)) (lowSide (a .h))) (d .ensures) ∙ sym (walk-more T (a .levels) (a .w) (a .h) (samplesOf (a .w) (a .samples .now)) (z .some)))))
+    (rw (low-left (a .w), low-left (a .h)) at (u .ensures) ∙ ap (walk T (a .levels - 1) (lowSide (a .w)) (lowSide (a .h))) (d .ensures) ∙ sym (walk-more T (a .levels) (a .w) (a .h) (samplesOf (a .w) (a .samples .now)) (z .some)))))

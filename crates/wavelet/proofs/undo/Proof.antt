@@ -4,12 +4,11 @@ use mathlib.Core.Bool.{false}
 use native.Mathlib.Omega.{arith}
 use borrow.Author.Needs.{needs}
 use lib.Dec.{leb}
-use Rattle.refusal.proofs.Passed.{inside, multiples, area, magnitudes}
+use Rattle.refusal.proofs.Passed.{inside, sides, area, magnitudes}
 use Rattle.wavelet.proofs.Entries.{undone-of, plane-below}
 use Rattle.kernel.specs.Kernels.{theKernel}
 use Rattle.kernel.proofs.Numbers as numbers
 use Rattle.refusal.proofs.Ordered.{ordered, refused, done}
-use Rattle.grid.proofs.Levels.{halves-of}
 use Rattle.wavelet.proofs.undo.Statement.{statement}
 use Rattle.wavelet.proofs.undo.Tie as tie
 
@@ -26,15 +25,15 @@ undo-spec =
     (λ c. let u = numbers.unknown (c .before .before .before .args .kernel) (sym (c .before .before .new .ensures) ∙ c .enum-told .given .1) in refused _ (search ordered depth 20 fits 3000))
     (λ c κs. search needs)
     (λ c. let k = known (c .before .before) .0 in refused _ (search ordered depth 20 fits 3000))
-    (λ c κs. let v = inside 1 5 _ (sym (c .before .bad-levels .ensures) ∙ c .if1 .left) in v .1)
+    (λ c κs. search needs)
     (λ c. let k = known (c .before .before .before .before) .0 in refused _ (search ordered depth 20 fits 3000))
-    (λ c. area (multiples _ _ _ (sym (c .before .bad-size-at .ensures) ∙ c .if2 .left) .0))
+    (λ c. area (sides _ _ (sym (c .before .bad-size .ensures) ∙ c .if2 .left)))
     (λ c. let k = known (c .before .before .before .before .before) .0 in refused _ (search ordered depth 20 fits 3000))
     (λ c. let k = known (c .before .before .before .before .before .before) .0 in refused _ (search ordered depth 20 fits 3000))
     (λ c κs. search needs)
     (λ c. let k = known (c .before .before .before .before .before .before .before .before) .0 in refused _ (search ordered depth 20 fits 3000))
-    (λ c κs. let v = inside 1 5 _ (sym (c .before .before .before .before .before .before .before .before .bad-levels .ensures) ∙ c .before .before .before .before .before .before .before .if1 .left) in let m = multiples _ _ _ (sym (c .before .before .before .before .before .before .bad-size-at .ensures) ∙ c .before .before .before .before .before .if2 .left) in let a = c .before .before .before .before .before .before .before .before .before .before .before .before .before .args in (
-      record { halves = halves-of _ _ _ (m .1) (m .2); some = v .0; few = v .1; some-w = omega (arith, m .0 .width); some-h = omega (arith, m .0 .height); w-most = m .0 .width .1; h-most = m .0 .height .1; from = c .before .before .before .before .if3 .left; to = c .before .before .before .if4 .left },
+    (λ c κs. let v = inside 1 5 _ (sym (c .before .before .before .before .before .before .before .before .bad-levels .ensures) ∙ c .before .before .before .before .before .before .before .if1 .left) in let m = sides _ _ (sym (c .before .before .before .before .before .before .bad-size .ensures) ∙ c .before .before .before .before .before .if2 .left) in let a = c .before .before .before .before .before .before .before .before .before .before .before .before .before .args in (
+      record { some = v .0; few = v .1; some-w = omega (arith, m .width); some-h = omega (arith, m .height); w-most = m .width .1; h-most = m .height .1; from = c .before .before .before .before .if3 .left; to = c .before .before .before .if4 .left },
       plane-below (a .w) (a .h) (a .plane .now) (c .before .before .before .before .if3 .left) (magnitudes _ (sym (c .before .before .bad-magnitude .ensures) ∙ c .before .if5 .left)),
     ))
     (λ c. search needs)

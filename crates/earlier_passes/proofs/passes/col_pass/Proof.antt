@@ -29,7 +29,7 @@ col-pass-spec =
     (col-in z (l .x) (n .result) (omega (arith, n .ensures)) (omega (arith, n .ensures)), (col-strips z (n .result) (omega (arith, n .ensures)), col-takes (s .pre .0) p (s .pre .1) (n .result) (omega (arith, n .ensures)))))
     (λ c. omega (arith, c .before .before .before .before .before .before .before .least .ensures))
     (λ c. omega (arith, c .before .before .before .before .before .before .before .least .ensures))
-    (λ c. let s = c .before .before .before .before .before .before .before .before .before .before in let l = c .before .before .before .before .before .before .before .before .before .loop in let n = c .before .before .before .before .before .before .before .least in let k = c .before .before .before .lines .kept in let e : 2 * (s .args .h / 2) ≡ s .args .h = omega (arith, s .pre .0 .even-h) in cols-more (line-local (s .args .undo) (s .args .kernel)) (s .pre .0 .even-h) (s .pre .0 .wide) (l .inv) (n .result) (omega (arith, n .ensures)) (rw e at (c .before .before .before .lines .ensures)) (k .1 .1 .1 .0) (k .1 .1 .1 .1 .0))
+    (λ c. let s = c .before .before .before .before .before .before .before .before .before .before in let l = c .before .before .before .before .before .before .before .before .before .loop in let n = c .before .before .before .before .before .before .before .least in let k = c .before .before .before .lines .kept in let e : 2 * (s .args .h / 2) ≡ s .args .h = omega (arith, s .pre .0 .even-h) in cols-more (line-local (s .args .undo) (s .args .kernel)) (s .pre .0 .wide) (l .inv) (n .result) (omega (arith, n .ensures)) (rw e at (c .before .before .before .lines .ensures)) (k .1 .1 .1 .0) (k .1 .1 .1 .1 .0))
     (λ c. c .before .loop .inv .same-l)
     (λ c. c .before .loop .inv .same-a)
     (λ c. c .before .loop .inv .same-b)

@@ -27,7 +27,7 @@ row-pass-spec =
     (row-in z (l .y) (omega arith), (row-strips z, row-takes (s .pre .0) p (s .pre .1) (omega arith))))
     (λ c. omega arith)
     (λ c. omega arith)
-    (λ c. let s = c .before .before .before .before .before .before .before .before .before in let l = c .before .before .before .before .before .before .before .before .loop in let k = c .before .before .before .lines .kept in let e : 2 * (s .args .w / 2) ≡ s .args .w = omega (arith, s .pre .0 .even-w) in rows-more (line-local (s .args .undo) (s .args .kernel)) (s .pre .0 .even-w) (s .pre .0 .wide) (l .inv) (omega arith) (rw e at (c .before .before .before .lines .ensures)) (k .1 .1 .1 .0) (k .1 .1 .1 .1 .0))
+    (λ c. let s = c .before .before .before .before .before .before .before .before .before in let l = c .before .before .before .before .before .before .before .before .loop in let k = c .before .before .before .lines .kept in let e : 2 * (s .args .w / 2) ≡ s .args .w = omega (arith, s .pre .0 .even-w) in rows-more (line-local (s .args .undo) (s .args .kernel)) (s .pre .0 .wide) (l .inv) (omega arith) (rw e at (c .before .before .before .lines .ensures)) (k .1 .1 .1 .0) (k .1 .1 .1 .1 .0))
     (λ c. c .before .loop .inv .same-l)
     (λ c. c .before .loop .inv .same-a)
     (λ c. c .before .loop .inv .same-b)

@@ -16,7 +16,7 @@ abbrev μ-loop : tie.MeasureT-loop
 
 -- the row that is copied next
 row : (c : tie.After-source Inv-loop μ-loop) → c .source .result ≡ source (c .before .before .before .before .before .before .before .args .h) (c .before .before .before .before .loop .n)
-row c = let s = c .before .before .before .before .before .before .before in c .source .ensures ∙ source-at (s .args .h) _ (c .before .before .before .before .loop .n) (omega (arith, s .pre .0 .1))
+row c = let s = c .before .before .before .before .before .before .before in c .source .ensures ∙ source-at (s .args .h) _ (c .before .before .before .before .loop .n) (omega arith)
 
 pub place-spec : {M : Type 1} → statement M
 place-spec =
@@ -27,11 +27,11 @@ place-spec =
     (λ c. (placing-none, length-replicate {A = ℕ} 2048 0))
     (λ c. omega arith)
     (λ c κs. omega arith)
-    (λ c. let p = c .before .before .before .before .before .before .before .pre in rw (row c) (omega (arith, placing-room (p .0 .1) (p .1 .0) (p .1 .1) (c .before .before .before .before .loop .inv .0) (omega arith))))
-    (λ c. let p = c .before .before .before .before .before .before .before .pre in omega (arith, placing-room (p .0 .1) (p .1 .0) (p .1 .1) (c .before .before .before .before .loop .inv .0) (omega arith)))
-    (λ c κs. let p = c .before .before .before .before .before .before .before .pre in (rw (row c) (placing-room (p .0 .1) (p .1 .0) (p .1 .1) (c .before .before .before .before .loop .inv .0) (omega arith)), (p .0 .0, omega arith)))
+    (λ c. let p = c .before .before .before .before .before .before .before .pre in rw (row c) (omega (arith, placing-room (p .1 .0) (p .1 .1) (c .before .before .before .before .loop .inv .0) (omega arith))))
+    (λ c. let p = c .before .before .before .before .before .before .before .pre in omega (arith, placing-room (p .1 .0) (p .1 .1) (c .before .before .before .before .loop .inv .0) (omega arith)))
+    (λ c κs. let p = c .before .before .before .before .before .before .before .pre in (rw (row c) (placing-room (p .1 .0) (p .1 .1) (c .before .before .before .before .loop .inv .0) (omega arith)), omega arith))
     (λ c. omega arith)
     (λ c. omega arith)
     (λ c. (placing-more (c .before .before .before .before .before .before .before .before .loop .inv .0) (omega arith) (rw (row (c .before .before .before .before)) at (c .before .before .before .part .ensures)), c .before .before .before .part .kept .1 .1 .0 ∙ c .before .before .before .before .before .before .before .before .loop .inv .1))
     (λ c. c .before .loop .inv .0 .size)
-    (λ c. let p = c .before .before .before .before .pre in placing-all (p .0 .0) (p .0 .1) (p .1 .0) (p .1 .1) (c .before .loop .inv .0) (omega arith)))
+    (λ c. let p = c .before .before .before .before .pre in placing-all (p .1 .0) (p .1 .1) (c .before .loop .inv .0) (omega arith)))

@@ -16,7 +16,7 @@ abbrev μ-loop : tie.MeasureT-loop
 
 -- the row that is taken next
 row : (c : tie.After-source Inv-loop μ-loop) → c .source .result ≡ source (c .before .before .before .before .before .before .args .w) (c .before .before .before .loop .n)
-row c = let s = c .before .before .before .before .before .before in c .source .ensures ∙ source-at (s .args .w) _ (c .before .before .before .loop .n) (omega (arith, s .pre .1 .0))
+row c = let s = c .before .before .before .before .before .before in c .source .ensures ∙ source-at (s .args .w) _ (c .before .before .before .loop .n) (omega arith)
 
 pub take-spec : {M : Type 1} → statement M
 take-spec =
@@ -24,7 +24,7 @@ take-spec =
     Inv-loop
     μ-loop
     (λ c. omega arith)
-    (λ c. let p = c .before .before .pre in moving-none (rows-parted (p .0) (p .1 .2) (p .1 .0)))
+    (λ c. let p = c .before .before .pre in moving-none (rows-parted (p .0) (p .1 .1)))
     (λ c κs. omega arith)
     (λ c. rw (row c) (omega (arith, moving-next (c .before .before .before .loop .inv) (c .before .before .loop-test .taken))))
     (λ c. rw (row c) (omega (arith, moving-next (c .before .before .before .loop .inv) (c .before .before .loop-test .taken))))
