@@ -14,7 +14,7 @@ use Rattle.line.proofs.Local.{forward-local, back-local}
 use Rattle.grid.specs.Picture.{Picture, Transform, turned, picture}
 use Rattle.grid.specs.Buffer.{strided, InBuffer}
 use Rattle.grid.proofs.Passes.{Local, cell, pass-past}
-use Rattle.grid.proofs.Running.{RowsPassed, ColsPassed, row-places, col-places}
+use Rattle.grid.proofs.Running.{RowsPassed, ColsPassed, row-places, col-places, whole-rows}
 use Rattle.earlier_passes.specs.Strip.{Strips}
 use Rattle.earlier_passes.specs.Passes.{lineTransform, Takes, Area}
 
@@ -54,7 +54,7 @@ module _ {stride w h : ℕ} {l a b : List ℤ} (z : Area stride w h l a b) where
   }
 
   pub row-in : (y : ℕ) → y < h → InBuffer l (y * stride) 1 (2 * (w / 2)) 1
-  row-in y h = let e : 2 * (w / 2) ≡ w = omega (arith, z .even-w) in rw e (row-places l stride w _ (z .wide) (z .fits) y h)
+  row-in y h = let e : 2 * (w / 2) ≡ w = omega (arith, z .even-w) in rw e (row-places l stride w _ (z .wide) (whole-rows (z .wide) (z .fits)) y h)
 
   pub col-strips : (c : ℕ) → c ≤ 16 → Strips (h / 2) c a b
   col-strips c le =
@@ -67,7 +67,7 @@ module _ {stride w h : ℕ} {l a b : List ℤ} (z : Area stride w h l a b) where
       }
 
   pub col-in : (x c : ℕ) → 0 < c → x + c ≤ w → InBuffer l x stride (2 * (h / 2)) c
-  col-in x c some le = let e : 2 * (h / 2) ≡ h = omega (arith, z .even-h) in rw e (col-places l stride w h (z .wide) (z .fits) x c some le)
+  col-in x c some le = let e : 2 * (h / 2) ≡ h = omega (arith, z .even-h) in rw e (col-places l stride w h (z .wide) (whole-rows (z .wide) (z .fits)) x c some le)
 
 module _ {undo : Bool} {T : Transform ℤ} {stride w h y : ℕ} {l₀ a₀ b₀ l a b : List ℤ} (z : Area stride w h l₀ a₀ b₀) (p : RowsPassed (pos 0) T stride w h y l₀ a₀ b₀ l a b) where
   pub row-takes : ((v : ℕ) → v < h → Takes undo w (picture (pos 0) stride l₀ v)) → y < h → (j : ℕ) → j < 1 → Takes undo (2 * (w / 2)) (strided (pos 0) l (y * stride + j) 1)

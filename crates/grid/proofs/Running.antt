@@ -57,18 +57,14 @@ module _ {A : Type 0} {o : A} {T : Transform A} {W w h x : ℕ} {l₀ a₀ b₀ 
     passed = col-more o W T local l l′ h x c (turned (picture o W l₀)) (omega arith) f (p .passed);
   }
 
--- ---- a row, and a strip of columns, of an area are in its buffer
-module _ {A : Type 0} (l : List A) (W w h : ℕ) (wide : w ≤ W) (fits : h * W ≤ length l) where
+-- ---- a row, and a strip of columns, of an area whose places are in a buffer are in it
+module _ {A : Type 0} (l : List A) (W w h : ℕ) (wide : w ≤ W) (inside : (y x : ℕ) → y < h → x < w → y * W + x < length l) where
   pub row-places : (y : ℕ) → y < h → InBuffer l (y * W) 1 w 1
-  row-places y p = record {
-    some = omega arith;
-    apart = omega arith;
-    place = λ n j i r. omega (arith, digits-lt {q = y} {m = h} {r = n} {c = W} p (omega arith));
-  }
+  row-places y p = record { some = omega arith; apart = omega arith; place = λ n j i r. omega (arith, inside y n p i) }
 
   pub col-places : (x c : ℕ) → 0 < c → x + c ≤ w → InBuffer l x W h c
-  col-places x c some le = record {
-    some = some;
-    apart = omega arith;
-    place = λ n j i r. omega (arith, digits-lt {q = n} {m = h} {r = x + j} {c = W} (omega arith) (omega arith));
-  }
+  col-places x c some le = record { some = some; apart = omega arith; place = λ n j i r. omega (arith, inside n (x + j) i (omega arith)) }
+
+-- so they are where it has room for whole rows
+pub whole-rows : {W w h size : ℕ} → w ≤ W → h * W ≤ size → (y x : ℕ) → y < h → x < w → y * W + x < size
+whole-rows {W} {w} {h} wide fits y x i j = omega (arith, digits-lt {q = y} {m = h} {r = x} {c = W} i (omega arith))

@@ -39,12 +39,6 @@ straight-between s M n r low high = record {
   after = λ i d h p. omega (arith, inside-here M (n + i + d) 0 (omega arith) (omega arith), inside-here M (n + d) 0 (omega arith) (omega arith));
 }
 
-pub movable-most : (s : Step) (M : ℕ) → (M ≤ movable s M) × (movable s M ≤ M + 1)
-movable-most SPlusP M = omega arith
-movable-most TT M = omega arith
-movable-most High M = omega arith
-movable-most Low M = omega arith
-
 pub look-two : (s : Step) → (lookBack s ≤ 2) × (lookAhead s ≤ 2)
 look-two SPlusP = omega arith
 look-two TT = omega arith

@@ -30,22 +30,17 @@ use Rattle.lifting.specs.Lines.{pairSecond, seconds, pairLows, RowsWithi
 use Rattle.lifting.proofs.Stages.{Local, lows-pair, lows-alone, both-as, both-then, moved-within, amount-within, first-local, second-local, moves-second-local, moves-first-local}
 
 -- ---- the second step and then the first, undone
-pair-undone : (k : Kernel) (M K : ℕ) (A B : Line ℤ) (n : ℕ) → pairLows true K A (pairDifference k M A B) n ≡ pairFirst k M K A B n
-pair-undone k M K A B n = by-lt n K
-    (λ lt. lows-pair true K n A _ lt ∙ sym (first-pair k M K n A B lt))
-    (λ ge. lows-alone true K n A _ ge ∙ sym (first-alone k M K n A B ge))
-
--- kernel 0 predicts nothing
-lows-none : (M K : ℕ) (A B : Line ℤ) (n : ℕ) → pairLows true K A B n ≡ pairFirst kernel.S M K A B n
-lows-none M K A B n = by-lt n K
-    (λ lt. lows-pair true K n A B lt ∙ ap (firstOf (A n)) (sym (add-none M A n (B n))) ∙ sym (first-pair kernel.S M K n A B lt))
-    (λ ge. lows-alone true K n A B ge ∙ sym (first-alone kernel.S M K n A B ge))
+-- D are kernel 0's highs again
+pair-undone : (k : Kernel) (M K : ℕ) (A B D : Line ℤ) (n : ℕ) → D n ≡ pairDifference k M A B n → pairLows true K A D n ≡ pairFirst k M K A B n
+pair-undone k M K A B D n e = by-lt n K
+    (λ lt. lows-pair true K n A D lt ∙ ap (firstOf (A n)) e ∙ sym (first-pair k M K n A B lt))
+    (λ ge. lows-alone true K n A D ge ∙ sym (first-alone k M K n A B ge))
 
 pub undone-first : (k : Kernel) (M K : ℕ) (A B : Line ℤ) → Agree M (firstLows true k K (secondLows true k K A B) (secondHighs true k M A B)) (undoneEvens k M K A B)
 unfolding undoneEvens
-undone-first kernel.S M K A B n h = lows-none M K A B n
-undone-first kernel.SPlusP M K A B n h = pair-undone kernel.SPlusP M K A B n
-undone-first kernel.TT M K A B n h = pair-undone kernel.TT M K A B n
+undone-first kernel.S M K A B n h = pair-undone kernel.S M K A B B n (sym (add-none M A n (B n)))
+undone-first kernel.SPlusP M K A B n h = pair-undone kernel.SPlusP M K A B _ n refl
+undone-first kernel.TT M K A B n h = pair-undone kernel.TT M K A B _ n refl
 undone-first kernel.FiveThree M K A B n h = refl
 
 pub undone-second : (k : Kernel) (M K : ℕ) (A B : Line ℤ) → Agree K (firstHighs true k M (secondLows true k K A B) (secondHighs true k M A B)) (undoneOdds k M K A B)

@@ -1,4 +1,4 @@
--- The laws of lines that are joined from lows and highs, or paired from evens and odds. Assumes nothing.
+-- The laws of lines that are joined from lows and highs, or paired from evens and odds, and of how many there are. Assumes nothing.
 use mathlib.Core.Path.{_≡_, refl, ap}
 use mathlib.Core.Bool.{Bool, true, false}
 use Prim.Native.Nat.{ℕ, _+_, _*_, _-_, _/_, _%_, _<_, _≤_}
@@ -27,6 +27,13 @@ pub by-parity : (P : ℕ → Type 0) → ((n : ℕ) → P (2 * n)) → ((n : ℕ
 by-parity P even odd x = by-lt (x % 2) 1
     (λ lt. let e : 2 * (x / 2) ≡ x = omega arith in rw e at (even (x / 2)))
     (λ ge. let e : 2 * (x / 2) + 1 ≡ x = omega arith in rw e at (odd (x / 2)))
+
+-- what the highs leave of a line are its lows, at most one more than the highs
+pub low-left : (w : ℕ) → w - w / 2 ≡ lowSide w
+low-left w = omega arith
+
+pub low-most : (w i : ℕ) → i < lowSide w → i ≤ w / 2
+low-most w i h = omega arith
 
 module _ {A : Type 0} (m : ℕ) (L D : Line A) where
   pub joined-low : (n : ℕ) → n < m → joined m L D n ≡ L n

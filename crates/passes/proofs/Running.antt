@@ -15,7 +15,7 @@ use Rattle.line.proofs.Local.{forward-local, back-local}
 use Rattle.grid.specs.Picture.{Picture, Transform, turned, picture}
 use Rattle.grid.specs.Buffer.{strided, InBuffer}
 use Rattle.grid.proofs.Passes.{Local, cell, pass-past}
-use Rattle.grid.proofs.Running.{RowsPassed, ColsPassed}
+use Rattle.grid.proofs.Running.{RowsPassed, ColsPassed, row-places, col-places}
 use Rattle.passes.specs.Passes.{lineTransform, Takes, Area}
 
 pub line-local : (undo : Bool) (k : Kernel) → Local (lineTransform undo k)
@@ -27,14 +27,6 @@ takes-agree false w X Y a t = record { takes = λ i h. rw (← a i h) (t .takes 
 takes-agree true w X Y a t = record {
   takes = ((λ i h. rw (← a i (omega arith)) (t .takes .0 i h)), (λ i h. rw (← a (lowSide w + i) (omega arith)) (t .takes .1 i h)));
 }
-
--- what the highs leave of a line are its lows
-pub low-left : (n : ℕ) → n - n / 2 ≡ lowSide n
-low-left n = omega arith
-
--- and there is at most one more of them
-pub low-most : (n i : ℕ) → i < lowSide n → i ≤ n / 2
-low-most n i h = omega arith
 
 pub area-same : {stride w h n m : ℕ} → Area stride w h n → m ≡ n → Area stride w h m
 area-same z e = rw e z
@@ -50,13 +42,13 @@ module _ {stride w h size : ℕ} (z : Area stride w h size) where
 -- ---- rows
 module _ {stride w h : ℕ} (l : List ℤ) (z : Area stride w h (length l)) where
   pub row-in : (y : ℕ) → y < h → InBuffer l (y * stride) 1 w 1
-  row-in y p = record { some = omega arith; apart = omega arith; place = λ n j i r. omega (arith, area-place z y n p i) }
+  row-in = row-places l stride w h (z .wide) (area-place z)
 
   pub row-size : {n : ℕ} → w ≤ n → (0 < w) × (w < 2 ^ 32) × (w ≤ n)
   row-size le = (z .some-w, omega (arith, z .w-most), le)
 
   pub col-in : (x c : ℕ) → 0 < c → x + c ≤ w → InBuffer l x stride h c
-  col-in x c some le = record { some = some; apart = omega (arith, z .wide); place = λ n j i r. omega (arith, area-place z n (x + j) i (omega arith)) }
+  col-in = col-places l stride w h (z .wide) (area-place z)
 
   -- as many columns as working memory holds
   pub col-size : (c : ℕ) {n : ℕ} → 32768 ≤ n → c ≤ 32768 / h → (0 < h) × (h < 2 ^ 32) × (h * c ≤ n)

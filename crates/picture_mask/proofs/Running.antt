@@ -10,7 +10,6 @@ use mathlib.Core.List.{List}
 use Prim.Native.Nat.{ℕ, _+_, _*_, _/_, _%_, _<_, _≤_}
 use native.Mathlib.Nat.{mul-comm, mul-le-mul-left, mul-le-mul-right, mul-one, div-mul-le-self, le-div-iff-mul-le}
 use native.Mathlib.Omega.{arith}
-use lib.Arith.{digits-lt}
 use lib.Dec.{ltb}
 use lib.ListN.{length}
 use Rattle.kernel.specs.declared.Kernel.{Kernel}
@@ -18,6 +17,7 @@ use Rattle.line.specs.Cells.{Line, choose, lowSide}
 use Rattle.line.specs.Mask.{maskLine, marked, byteOf}
 use Rattle.line.proofs.Cells.{by-lt}
 use Rattle.grid.specs.Picture.{Picture, Transform, onLine, rowPass, turned, colPass, picture}
+use Rattle.grid.proofs.Running.{col-places, whole-rows}
 use Rattle.grid.specs.Buffer.{InBuffer, Lines}
 use Rattle.grid.specs.Placed.{woven, onWoven, placed}
 use Rattle.grid.proofs.Passes.{Local, cell-of, pass-none, row-more, col-more}
@@ -161,11 +161,7 @@ module _ {W w h : ℕ} {l : List ℕ} (z : Area W w h l) where
   most-lanes = le-div-iff-mul-le {k = h} {x = 1} {y = 32768} (z .some-h) .1 (omega (arith, z .h-most))
 
   pub col-in : (v c : ℕ) → 0 < c → v + c ≤ w → InBuffer l v W h c
-  col-in v c some le = record {
-    some = some;
-    apart = omega (arith, z .wide);
-    place = λ n j i r. omega (arith, z .wide, z .fits, digits-lt {q = n} {m = h} {r = v + j} {c = W} (omega arith) (omega (arith, z .wide)));
-  }
+  col-in = col-places l W w h (z .wide) (whole-rows (z .wide) (z .fits))
 
 -- ---- what the first level's row y and its columns ask
 module _ {W H : ℕ} {l : List ℕ} (z : Whole W H l) where

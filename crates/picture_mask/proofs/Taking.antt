@@ -20,10 +20,6 @@ use Rattle.line_mask.specs.Marks.{byte, lane, lineMarks, Parts, Masked}
 use Rattle.picture_mask.specs.Areas.{Binary, maskLineBytes}
 use Rattle.picture_mask.proofs.Local.{low-local, high-local}
 
--- how many lows a line has, as the code counts them
-pub low-count : (w : ℕ) → w - w / 2 ≡ lowSide w
-low-count w = omega arith
-
 -- ---- c lines of n marks from a on, of which the odds begin at b
 module _ (a b c n : ℕ) (l : List ℕ) (e : b ≡ a + lowSide n * c) where
   all : n * c ≡ lowSide n * c + n / 2 * c

@@ -10,7 +10,7 @@ use lib.Arith.{digits-div, digits-mod}
 use lib.ListN.{length, getD}
 use Rattle.line.specs.Cells.{choose, lowSide}
 use Rattle.line.specs.Mask.{byteOf}
-use Rattle.line.proofs.Cells.{by-lt, by-parity}
+use Rattle.line.proofs.Cells.{by-lt, by-parity, low-left}
 use Rattle.line.proofs.Marks.{or-left, or-right, or-cases}
 use Rattle.grid.specs.Placed.{woven, placed}
 use Rattle.grid.proofs.Passes.{factor-pos}
@@ -45,8 +45,8 @@ module _ (w : ℕ) where
 
   pub place-odd : (n : ℕ) → n % 2 ≡ 1 → w - w / 2 + n / 2 ≡ woven w (λ i. i) n
   place-odd n h =
-      let e : 2 * (n / 2) + 1 ≡ n = omega arith in let d : w - w / 2 + n / 2 ≡ lowSide w + n / 2 = omega arith in
-      d ∙ sym (woven-odd w (n / 2) (λ i. i)) ∙ ap (woven w (λ i. i)) e
+      let e : 2 * (n / 2) + 1 ≡ n = omega arith in
+      ap (λ m. m + n / 2) (low-left w) ∙ sym (woven-odd w (n / 2) (λ i. i)) ∙ ap (woven w (λ i. i)) e
 
 -- ---- row y + k of a rectangle x, y, w, .. in a picture of W by H; its evens are of columns (x + 1) / 2 .., its odds of lowSide W + x / 2 ..
 module _ (x y w W H : ℕ) (fit : x + w ≤ W) (k : ℕ) (low : y + k < H) where

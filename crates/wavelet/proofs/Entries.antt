@@ -3,11 +3,12 @@ use mathlib.Core.Path.{_≡_, sym, ap, subst, _∙_}
 use mathlib.Core.Bool.{true}
 use mathlib.Core.List.{List}
 use Prim.Native.Nat.{ℕ, zero, suc, _+_, _*_, _-_, _/_, _%_, _^_, _<_, _≤_}
-use native.Mathlib.Nat.{add-mul, one-mul, mul-comm, mod-lt, div-lt-iff-lt-mul, mul-le-mul-right}
+use native.Mathlib.Nat.{mul-comm, mod-lt, div-lt-iff-lt-mul, mul-le-mul-right}
 use native.Mathlib.Omega.{arith}
 use lib.Arith.{digits-lt}
 use lib.IntN.{ℤ, pos, negsuc, natAbs}
 use lib.ListN.{length, getD}
+use lib.Pow.{pow-mono}
 use Rattle.whole.specs.Within.{Within}
 use Rattle.kernel.specs.declared.Kernel.{Kernel}
 use Rattle.kernel.specs.Kernels.{theKernel}
@@ -36,22 +37,6 @@ filled W H l l′ P same size e = record {
 }
 
 -- ---- sizes and bounds
-few-levels : (n : ℕ) → n ≤ 5 → 2 ^ n ≤ 32
-few-levels zero h = omega arith
-few-levels (suc zero) h = omega arith
-few-levels (suc (suc zero)) h = omega arith
-few-levels (suc (suc (suc zero))) h = omega arith
-few-levels (suc (suc (suc (suc zero)))) h = omega arith
-few-levels (suc (suc (suc (suc (suc zero))))) h = omega arith
-few-levels (suc (suc (suc (suc (suc (suc n)))))) h = absurd (omega arith)
-
-last-row : (W H : ℕ) → 0 < H → (H - 1) * W + W ≡ H * W
-last-row W (suc n) h = let e : suc n - 1 ≡ n = omega arith in rw e (omega (arith, add-mul 1 n W, one-mul W, ap (λ (q : ℕ). q * W) (add-one n)))
-  where
-    add-one : (n : ℕ) → 1 + n ≡ suc n
-    add-one n = omega arith
-last-row W zero h = absurd (omega arith)
-
 module _ {J W H m n : ℕ} (z : Sized J W H m n) where
   levels-of : (size : ℕ) → size ≡ W * H → Levels W W H J size
   levels-of size e = record {
@@ -61,8 +46,8 @@ module _ {J W H m n : ℕ} (z : Sized J W H m n) where
     w-most = z .w-most;
     h-most = z .h-most;
     wide = omega arith;
-    narrow = omega (arith, mul-le-mul-right {m = 2 ^ J} {n = 32} W (few-levels J (z .few)), z .w-most);
-    fits = omega (arith, mul-comm W H, e, last-row W H (z .some-h));
+    narrow = omega (arith, mul-le-mul-right {m = 2 ^ J} {n = 2 ^ 5} W (pow-mono (z .few)), z .w-most);
+    fits = omega (arith, mul-comm W H, e, z .some-w, digits-lt {q = H - 1} {m = H} {r = W - 1} {c = W} (omega (arith, z .some-h)) (omega (arith, z .some-w)));
   }
 
   pub sized-levels : {size : ℕ} → size ≡ n → Levels W W H J size

@@ -8,7 +8,8 @@ use lib.ListN.{length}
 use Rattle.line.specs.Cells.{lowSide}
 use Rattle.lifting.proofs.Rows.{parts-as}
 use Rattle.passes.specs.Levels.{levelOf}
-use Rattle.passes.proofs.Running.{low-most, area-same, area-reach}
+use Rattle.line.proofs.Cells.{low-most}
+use Rattle.passes.proofs.Running.{area-same, area-reach}
 use Rattle.passes.proofs.Swept.{swept-none, Ahead, begunTo, placedTo, ahead-none, ahead-more, more-begun, more-placed, fewer}
 use Rattle.passes.proofs.Rolling.{Rolled, parts-at, highs-top, pair-top, high-window, level-done}
 use Rattle.passes.proofs.Turns.{begin-asks, end-asks, after-end}

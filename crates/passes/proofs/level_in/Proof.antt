@@ -10,7 +10,8 @@ use Rattle.line.specs.Transform.{forward}
 use Rattle.grid.specs.Picture.{rowPass}
 use Rattle.lifting.proofs.Rows.{parts-as}
 use Rattle.passes.specs.Passes.{pictured}
-use Rattle.passes.proofs.Running.{low-left, area-same}
+use Rattle.line.proofs.Cells.{low-left}
+use Rattle.passes.proofs.Running.{area-same}
 use Rattle.passes.proofs.Swept.{swept-none, Ahead, begunTo, placedTo, ahead-none, ahead-more, more-begun, more-placed, fewer}
 use Rattle.passes.proofs.Rising.{Rising, parts-in, high-near, level-all, first-asks, second-asks, after-second}
 use Rattle.passes.proofs.level_in.Statement.{statement}

@@ -3,7 +3,7 @@ use Prim.Native.Nat.{_+_, _*_, _-_, _/_, _^_, _<_, _≤_}
 use native.Mathlib.Omega.{arith}
 use borrow.Author.Needs.{needs}
 use lib.ListN.{length}
-use Rattle.passes.proofs.Running.{low-left}
+use Rattle.line.proofs.Cells.{low-left}
 use Rattle.passes.proofs.Placing.{row-within, row-ends, pair-in-both, pair-in-last}
 use Rattle.passes.proofs.pair_in.Statement.{statement}
 use Rattle.passes.proofs.pair_in.Tie as tie

@@ -3,7 +3,8 @@ use mathlib.Core.Path.{_≡_, ap₂}
 use Prim.Native.Nat.{_+_, _*_, _-_, _/_, _^_, _≤_, min}
 use native.Mathlib.Omega.{arith}
 use borrow.Author.Needs.{needs}
-use Rattle.passes.proofs.Running.{low-left, area-same, area-reach}
+use Rattle.line.proofs.Cells.{low-left}
+use Rattle.passes.proofs.Running.{area-same, area-reach}
 use Rattle.passes.proofs.PairPlaces.{right-rows, high-rows, pairs-placed}
 use Rattle.passes.proofs.place_pairs.Statement.{statement}
 use Rattle.passes.proofs.place_pairs.Tie as tie

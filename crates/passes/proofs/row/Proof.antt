@@ -5,7 +5,7 @@ use native.Mathlib.Omega.{arith}
 use borrow.Author.Needs.{needs}
 use Rattle.transfer.proofs.Twofold.{runs-places, turns-places}
 use Rattle.line.specs.Cells.{lowSide}
-use Rattle.passes.proofs.Running.{low-left}
+use Rattle.line.proofs.Cells.{low-left}
 use Rattle.passes.proofs.Taking.{line-parts, row-out, row-back-room, row-end, row-halved, row-bounded, row-forward, lows-bounded, highs-bounded, row-back}
 use Rattle.passes.proofs.row.Statement.{statement}
 use Rattle.passes.proofs.row.Tie as tie

@@ -7,7 +7,7 @@ use lib.IntN.{ℤ, pos}
 use lib.ListN.{getD}
 use Rattle.line.specs.Cells.{Line, lowSide}
 use Rattle.transfer.proofs.Twofold.{runs-places}
-use Rattle.passes.proofs.Running.{low-left}
+use Rattle.line.proofs.Cells.{low-left}
 use Rattle.passes.proofs.Placing.{row-parts, samples-parted, front-bounded, rear-bounded, row-stored}
 use Rattle.passes.proofs.row_in.Statement.{statement}
 use Rattle.passes.proofs.row_in.Tie as tie

@@ -5,7 +5,7 @@ use native.Mathlib.Nat.{mul-le-mul-right}
 use native.Mathlib.Omega.{arith}
 use borrow.Author.Needs.{needs}
 use Rattle.line.specs.Cells.{lowSide}
-use Rattle.passes.proofs.Running.{low-left}
+use Rattle.line.proofs.Cells.{low-left}
 use Rattle.passes.proofs.Taking.{two-parts, strip-evens, strip-odds, strip-put, strip-halved, evens-bounded, odds-bounded, forward-put}
 use Rattle.passes.proofs.strip.Statement.{statement}
 use Rattle.passes.proofs.strip.Tie as tie

@@ -4,11 +4,11 @@ use Prim.Native.Nat.{ℕ, _+_, _-_, _<_}
 use native.Mathlib.Omega.{arith}
 use borrow.Fn.Kinds.{In}
 use borrow.Fn.PlainCycle.{Measures, is, falls, and}
+use Rattle.line.proofs.Cells.{low-left}
 use Rattle.line.specs.Cells.{lowSide}
 use Rattle.grid.specs.Picture.{colPass, walk}
 use Rattle.grid.proofs.Levels.{walk-none, walk-more}
 use Rattle.picture_mask.specs.Areas.{maskLineBytes}
-use Rattle.picture_mask.proofs.Taking.{low-count}
 use Rattle.picture_mask.proofs.Running.{rows-area, cols-area, area-low}
 use Rattle.picture_mask.proofs.cols.Reads as cols
 use Rattle.picture_mask.proofs.cols.Kinds as cols-kinds
@@ -48,12 +48,12 @@ pub +cols+rows-spec : {M : Type 1} → statement M
     (λ c. omega arith)
     (λ c. c .before .before .before .before .before .before .before .before .before .before .before .before .before .pre .1 .0)
     (λ c κs. let s = c .before .before .before .before .before .before .before .before .before .before .before .before .before in let a = s .args in let p = s .pre .1 in let r = c .before .before .before .before .before .before .before .col-pass in let k = r .kept in
-    (omega (arith, s .pre .0, p .0), (rw (low-count (a .w), low-count (a .h)) (area-low (cols-area _ (p .1 .0) (k .1 .0) (a .kernel) (a .w) (r .ensures))), (rw (k .1 .1 .0) (p .1 .1 .0), p .1 .1 .1))))
+    (omega (arith, s .pre .0, p .0), (rw (low-left (a .w), low-left (a .h)) (area-low (cols-area _ (p .1 .0) (k .1 .0) (a .kernel) (a .w) (r .ensures))), (rw (k .1 .1 .0) (p .1 .1 .0), p .1 .1 .1))))
     (λ c. c .before .before .before .before .before .before .rows .kept .1 .0 ∙ c .before .before .before .before .before .before .before .before .before .before .before .before .before .before .col-pass .kept .1 .0)
     (λ c. c .before .before .before .before .before .before .rows .kept .1 .1 .0 ∙ c .before .before .before .before .before .before .before .before .before .before .before .before .before .before .col-pass .kept .1 .1 .0)
     (λ c. c .before .before .before .before .before .before .rows .kept .1 .1 .1 .0)
     (λ c. let a = c .before .before .before .before .before .before .before .before .before .before .before .before .before .before .before .before .before .before .before .before .args in
-    (rw (low-count (a .w), low-count (a .h)) at (c .before .before .before .before .before .before .rows .ensures))
+    (rw (low-left (a .w), low-left (a .h)) at (c .before .before .before .before .before .before .rows .ensures))
     ∙ ap (walk (maskLineBytes (a .kernel)) (a .levels - 1) (lowSide (a .w)) (lowSide (a .h))) (c .before .before .before .before .before .before .before .before .before .before .before .before .before .before .col-pass .ensures)))
     (λ t. rows-lts.spec (row-pass-reads.Asked, row-pass-reads.Learnt, cols-below t, cols.Post) (rows-at t) rows.Post
     (λ c κs. let p = c .before .before .before .before .before .before .pre .1 in (p .0, p .1 .1))

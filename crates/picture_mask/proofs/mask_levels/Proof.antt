@@ -4,8 +4,8 @@ use Prim.Native.Nat.{ℕ}
 use native.Mathlib.Omega.{arith}
 use borrow.Author.Needs.{needs}
 use lib.ListN.{length-replicate}
+use Rattle.line.proofs.Cells.{low-left}
 use Rattle.picture_mask.specs.Areas.{Whole}
-use Rattle.picture_mask.proofs.Taking.{low-count}
 use Rattle.picture_mask.proofs.Running.{rows-whole, cols-whole}
 use Rattle.picture_mask.proofs.Entry.{region-whole, low-area, mask-result}
 use Rattle.picture_mask.proofs.mask_levels.Statement.{statement}
@@ -32,9 +32,9 @@ mask-levels-spec =
     (λ c. omega arith)
     (λ c. omega (arith, c .before .before .before .before .before .before .before .before .before .before .before .before .pre .levels))
     (λ c κs. let s = c .before .before .before .before .before .before .before .before .before .before .before .before in let n = length-replicate {A = ℕ} 32768 0 in let m = length-replicate {A = ℕ} 1024 0 in
-    (rw (low-count (s .args .w), low-count (s .args .h)) (low-area (s .args .levels) _ _ _ (s .pre) _ (after-cols (c .before .before .before .before .before))), (omega arith, omega arith)))
+    (rw (low-left (s .args .w), low-left (s .args .h)) (low-area (s .args .levels) _ _ _ (s .pre) _ (after-cols (c .before .before .before .before .before))), (omega arith, omega arith)))
     (λ c. search needs)
     (λ c. let s = c .before .before .before .before .before .before .before .before .before .before .before .before .before .before .before .before .before in
     mask-result (s .args .levels) _ _ _ (s .pre) (s .args .kernel) _ _ _ (c .before .before .before .before .rows .kept .1 .0 ∙ c .before .before .before .before .before .before .before .before .before .before .placed-cols .kept .1 .0 ∙ c .before .before .before .before .before .before .before .before .before .before .before .before .before .before .placed-rows .kept .1 .0)
     (c .before .before .before .before .before .before .before .before .before .before .before .before .before .before .placed-rows .ensures) (c .before .before .before .before .before .before .before .before .before .before .placed-cols .ensures)
-    (rw (low-count (s .args .w), low-count (s .args .h)) at (c .before .before .before .before .rows .ensures))))
+    (rw (low-left (s .args .w), low-left (s .args .h)) at (c .before .before .before .before .rows .ensures))))

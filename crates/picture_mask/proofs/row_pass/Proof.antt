@@ -3,12 +3,13 @@ use mathlib.Core.Path.{_≡_, refl, _∙_}
 use Prim.Native.Nat.{_+_, _*_, _-_, _/_, _≤_}
 use native.Mathlib.Omega.{arith}
 use lib.ListN.{length}
+use Rattle.line.proofs.Cells.{low-left}
 use Rattle.line.specs.Cells.{lowSide}
 use Rattle.transfer.proofs.Parting.{row-back}
 use Rattle.line_mask.specs.Marks.{Parts}
 use Rattle.picture_mask.specs.Areas.{Area, maskLineBytes}
 use Rattle.picture_mask.proofs.Local.{bytes-local}
-use Rattle.picture_mask.proofs.Taking.{low-count, masked-lines}
+use Rattle.picture_mask.proofs.Taking.{masked-lines}
 use Rattle.picture_mask.proofs.Running.{RowsMasked, rows-none, rows-more, row-in, parted-parts, rows-now}
 use Rattle.picture_mask.proofs.row_pass.Statement.{statement}
 use Rattle.picture_mask.proofs.row_pass.Tie as tie
@@ -28,7 +29,7 @@ row c = row-in (area c) (c .before .loop .y) (omega arith)
 
 parts : (c : tie.After-part-row Inv-loop μ-loop) → let a = c .before .before .before .before .before .before .before .args in let y = c .before .before .before .before .loop .y in
     Parts (y * a .stride) (y * a .stride + (a .w - a .w / 2)) 1 (a .w - a .w / 2) (a .w / 2) (c .part-row .last .0)
-parts c = let s = c .before .before .before .before .before .before .before in parted-parts (area (c .before .before .before)) (c .before .before .before .before .loop .y) (s .args .w - s .args .w / 2) (omega arith) (low-count (s .args .w)) (c .part-row .ensures)
+parts c = let s = c .before .before .before .before .before .before .before in parted-parts (area (c .before .before .before)) (c .before .before .before .before .loop .y) (s .args .w - s .args .w / 2) (omega arith) (low-left (s .args .w)) (c .part-row .ensures)
 
 pub row-pass-spec : {M : Type 1} → statement M
 row-pass-spec =
@@ -46,7 +47,7 @@ row-pass-spec =
     (λ c. let s = c .before .before .before .before .before .before .before .before .before .before .before .before .before .before .before in let a = s .args in let l = c .before .before .before .before .before .before .before .before .before .before .before .before .loop in let p = c .before .before .before .before .before .before .before .before .part-row in (
       rows-more (bytes-local (a .kernel)) (s .pre .0 .wide) (l .inv .0) (omega arith)
           (row-back (bytes-local (a .kernel)) (p .ensures)
-          (masked-lines (l .y * a .stride) (l .y * a .stride + lowSide (a .w)) 1 (a .w) _ (omega arith) (a .kernel) _ (rw (low-count (a .w)) at (c .before .before .mask .ensures)))),
+          (masked-lines (l .y * a .stride) (l .y * a .stride + lowSide (a .w)) 1 (a .w) _ (omega arith) (a .kernel) _ (rw (low-left (a .w)) at (c .before .before .mask .ensures)))),
       p .kept .1 .0 ∙ l .inv .1,
     ))
     (λ c. c .before .loop .inv .0 .same)

@@ -10,7 +10,7 @@ use Rattle.line.specs.Transform.{forward}
 use Rattle.line.specs.Cells.{lowSide}
 use Rattle.grid.specs.Picture.{Picture, colPass, walk}
 use Rattle.grid.proofs.Levels.{walk-none, walk-more}
-use Rattle.passes.proofs.Running.{low-left}
+use Rattle.line.proofs.Cells.{low-left}
 use Rattle.wavelet.specs.Wavelet.{coefficientsOf}
 use Rattle.wavelet.proofs.Walking as walking
 use Rattle.wavelet.proofs.Walking.{levels-same, level-area, levels-more, rows-take, cols-take}

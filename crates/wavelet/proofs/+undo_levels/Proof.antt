@@ -6,7 +6,7 @@ use borrow.Fn.Kinds.{In}
 use borrow.Fn.PlainCycle.{Measures, is, falls, and}
 use Rattle.line.specs.Cells.{lowSide}
 use Rattle.plane.proofs.Bounds.{below-part}
-use Rattle.passes.proofs.Running.{low-left}
+use Rattle.line.proofs.Cells.{low-left}
 use Rattle.wavelet.proofs.Walking.{levels-same, level-area, levels-narrow, levels-more, levels-apart, level-alike, cols-back, rows-back, level-more, area-rows, none-undone}
 use Rattle.wavelet.proofs.undo_levels.Reads as undo-levels
 use Rattle.wavelet.proofs.undo_levels.Kinds as undo-levels-kinds

@@ -9,7 +9,7 @@ use Rattle.line.proofs.Bounds.{within-more}
 use Rattle.line.specs.Cells.{lowSide}
 use Rattle.grid.specs.Picture.{walk}
 use Rattle.grid.proofs.Levels.{walk-more}
-use Rattle.passes.proofs.Running.{low-left}
+use Rattle.line.proofs.Cells.{low-left}
 use Rattle.wavelet.specs.Wavelet.{samplesOf}
 use Rattle.wavelet.proofs.Walking.{level-area, levels-more, first-take, first-below}
 use Rattle.wavelet.proofs.Entries.{filled, sized-levels, area-below}
