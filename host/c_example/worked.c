@@ -166,6 +166,17 @@ static void check_odd(void) {
     expect(memcmp(undone, odd_cut_undone, sizeof undone) == 0, "3 by 3: undone numbers");
 }
 
+/* Kernel 2's lows are reflected at both borders: a row with two lows, a column of odd length with three. */
+static void check_borders(void) {
+    const uint16_t row[4] = {0, 0, 64, 64}, column[5] = {0, 0, 64, 64, 0};
+    const int32_t row_plane[4] = {0, 64, 23, 23}, column_plane[5] = {0, 64, 0, 26, 1};
+    int32_t plane[5];
+    expect(dhiirqobaal_transform(2, 1, 8, 4, 1, row, 4, plane, 4) == 0, "0 0 64 64: transform");
+    expect(memcmp(plane, row_plane, sizeof row_plane) == 0, "0 0 64 64: coefficients");
+    expect(dhiirqobaal_transform(2, 1, 8, 1, 5, column, 5, plane, 5) == 0, "0 0 64 64 0, a column: transform");
+    expect(memcmp(plane, column_plane, sizeof column_plane) == 0, "0 0 64 64 0, a column: coefficients");
+}
+
 /* Every size within the limits is taken under every J. */
 static void check_sizes(void) {
     const uint16_t dark[24] = {0};
@@ -182,6 +193,7 @@ int main(void) {
     check_changed();
     check_cuts();
     check_odd();
+    check_borders();
     check_sizes();
     printf("%d passed, %d failed\n", passed, failed);
     return failed != 0;

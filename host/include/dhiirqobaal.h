@@ -8,7 +8,7 @@
  *   W, H       width and height of a picture, 1 to 4,096 each
  *   J          levels, 1 to 5, whatever W and H are
  *   D          depth in bits, 1 to 10; a sample is 0 to 2^D - 1
- *   kernel     0 S, 1 S+P (A), 2 TT, 3 the 5/3 of ITU-T T.800
+ *   kernel     0 S, 1 S+P (A), 2 TT, its lines reflected at their ends, 3 the 5/3 of ITU-T T.800
  *   rectangle  four numbers, x, y, width and height; (0, 0) is the upper left sample
  *   region     one byte a sample: 1 inside any rectangle, else 0
  *   mask       one byte a coefficient: 1 for those that make the region's samples exact (the marked ones), else 0

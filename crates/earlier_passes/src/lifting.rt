@@ -22,13 +22,17 @@ fn reach_of(s: Step) -> usize
     }
 }
 
-// The index among m that stands for u - d.
+// The index among m that stands for u - d: it is reflected about the lower border, and then about the upper one.
 fn inside(m: usize, u: usize, d: usize) -> usize
     requires { ⌜ 0 < m ⌝ }
     ensures { λ r. ⌜ r ≡ line.inside m u d ⌝ }
 {
-    let i = if u < d { 0 } else { u - d };
-    if i < m { i } else { m - 1 }
+    let i = if u < d { d - u - 1 } else { u - d };
+    if i < m {
+        i
+    } else {
+        m - 1 - whole::least(i - m, m - 1)
+    }
 }
 
 // Where row n and the rows around it begin.

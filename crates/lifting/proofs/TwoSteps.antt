@@ -18,7 +18,7 @@ use Rattle.line.specs.Formulas.{mean, difference, firstOf, secondOf, slopeA, be
 use Rattle.line.specs.Inner.{AllWithin, Agree}
 use Rattle.line.specs.Transform.{inside, means, differences, predict, update, pairHigh, low, high, pairDifference, pairFirst, undoneEvens, undoneOdds}
 use Rattle.line.proofs.Back.{add-none, sub-none}
-use Rattle.line.proofs.Border.{inside-in, after-one, window-before, window-after}
+use Rattle.line.proofs.Border.{inside-in, after-one, window-before, window-after, window-last}
 use Rattle.line.proofs.Bounds.{mean-within, difference-within, within-more}
 use Rattle.line.proofs.Cells.{by-lt, paired-even, paired-odd}
 use Rattle.line.proofs.Local.{means-pair, means-alone, first-pair, first-alone, predict-reach, update-local, update-there}
@@ -155,7 +155,7 @@ module _ (undo : Bool) (M K n v q r : ℕ) (A B A′ B′ : Line ℤ) (h : r < v
       x = a r (omega arith) h
 
       next : A′ (inside v (r + 1) 0) ≡ A (inside M (n + r + 1) 0)
-      next = a _ (omega (arith, after-one v r h)) (inside-in v (r + 1) 0 (omega arith)) ∙ ap A (window-after M n v r 1 h top (omega arith) ∙ ap (λ (u : ℕ). inside M u 0) (omega arith))
+      next = a _ (omega (arith, after-one v r h)) (inside-in v (r + 1) 0 (omega arith)) ∙ ap A (window-last M n v (r + 1) 0 (omega arith) top (omega arith) (omega arith) (omega arith) (omega arith) ∙ ap (λ (u : ℕ). inside M u 0) (omega arith))
 
       go : (j : Kernel) → firstHighs undo j v A′ B′ r ≡ firstHighs undo j M A B (n + r)
       go kernel.S = ap₂ (pairSecond undo) x y
@@ -243,10 +243,10 @@ module _ (undo : Bool) (M K n v q r : ℕ) (A B A′ B′ : Line ℤ) (h : r < v
   second-high-there k top ahead holds y = go k holds
     where
       before : (X X′ : Line ℤ) (d : ℕ) → d ≤ 2 → Agree v X′ (λ i. X (n + i)) → X′ (inside v r d) ≡ X (inside M (n + r) d)
-      before X X′ d le c = c _ (inside-in v r d (omega arith)) ∙ ap X (window-before M n v r d h top (omega arith))
+      before X X′ d le c = c _ (inside-in v r d (omega arith)) ∙ ap X (window-before M n v r d h top (omega arith) (omega arith))
 
       after : (X X′ : Line ℤ) (d : ℕ) → d ≤ 2 → Agree v X′ (λ i. X (n + i)) → X′ (inside v (r + d) 0) ≡ X (inside M (n + r + d) 0)
-      after X X′ d le c = c _ (inside-in v (r + d) 0 (omega arith)) ∙ ap X (window-after M n v r d h top (omega arith) ∙ ap (λ (u : ℕ). inside M u 0) (omega arith))
+      after X X′ d le c = c _ (inside-in v (r + d) 0 (omega arith)) ∙ ap X (window-after M n v r d h top (omega arith) (omega arith) ∙ ap (λ (u : ℕ). inside M u 0) (omega arith))
 
       go : (j : Kernel) → Holds j n v q A B A′ B′ → secondHighs undo j v A′ B′ r ≡ secondHighs undo j M A B (n + r)
       go kernel.S c = y

@@ -35,13 +35,17 @@ fn look_ahead(s: Step) -> usize
     }
 }
 
-// The index among m that stands for u - d.
+// The index among m that stands for u - d: it is reflected about the lower border, and then about the upper one.
 fn inside(m: usize, u: usize, d: usize) -> usize
     requires { ⌜ 0 < m ⌝ }
     ensures { λ r. ⌜ r ≡ line.inside m u d ⌝ }
 {
-    let i = if u < d { 0 } else { u - d };
-    if i < m { i } else { m - 1 }
+    let i = if u < d { d - u - 1 } else { u - d };
+    if i < m {
+        i
+    } else {
+        m - 1 - whole::least(i - m, m - 1)
+    }
 }
 
 // Where row n of the part at `part` begins, in a buffer of `size` numbers. It is inside; the compiler, which is not told so, leaves each

@@ -1,6 +1,8 @@
 -- The four transforms of a line of numbers of either sign, M lows and K highs, and the way back (docs/FORMAT.md, "Kernels on a line").
 -- A line of w numbers has w / 2 pairs and as many highs; with w odd its last number is unpaired, and there is one low more.
 --
+--   upward u d               == the index u − d, reflected about the lower border where it is below 0
+--   downward M i             == the index i, reflected about the upper border where it is not below M
 --   inside M u d             == the index inside 0 .. M − 1 that stands for the index u − d
 --   means K X                == kernel 0's lows: of K pairs, and the unpaired number as it is
 --   differences X            == kernel 0's highs
@@ -18,7 +20,7 @@
 --   back k w Y               == the line of w numbers whose transform is Y
 --
 -- Assumes nothing: these are definitions.
-use Prim.Native.Nat.{ℕ, zero, suc, _+_, _-_, _*_, _/_, min}
+use Prim.Native.Nat.{ℕ, zero, suc, _+_, _-_, _*_, _/_, min, max}
 use lib.Dec.{ltb}
 use lib.IntN.{ℤ, pos, _+ℤ_, _-ℤ_}
 use Rattle.kernel.specs.declared.Kernel.{Kernel}
@@ -26,9 +28,16 @@ use Rattle.kernel.specs.declared.Kernel.the-variants.{S, SPlusP, TT, FiveThree}
 use Rattle.line.specs.Cells.{Line, choose, lowSide, evens, odds, behind, joined, paired}
 use Rattle.line.specs.Formulas.{mean, difference, firstOf, secondOf, slopeA, slopeTT, between, smoothing}
 
--- the border: an index outside is the nearest index inside. In kernel 3 this says X(2M) = X(2M−2), h(−1) = h(0) and h(K) = h(K−1)
+-- the border: an index outside is reflected about it, −1 to 0 and −2 to 1, M to M − 1 and M + 1 to M − 2; with M = 1 every index is 0, since a difference below
+-- 0 is 0. Kernels 1 and 3 look one past an end at most, where this is the end: in kernel 3, X(2M) = X(2M−2), h(−1) = h(0) and h(K) = h(K−1)
+abbrev pub upward : ℕ → ℕ → ℕ
+upward u d = max (u - d) (d - (u + 1))
+
+abbrev pub downward : ℕ → ℕ → ℕ
+downward M i = min i (2 * M - (i + 1))
+
 unfoldable pub inside : ℕ → ℕ → ℕ → ℕ
-inside M u d = min (u - d) (M - 1)
+inside M u d = downward M (upward u d)
 
 unfoldable pub means : ℕ → Line ℤ → Line ℤ
 means K X n = choose (ltb n K) (mean (X (2 * n)) (X (2 * n + 1))) (X (2 * n))

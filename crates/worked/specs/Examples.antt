@@ -69,6 +69,16 @@ fiveSamples = pos 10 ∷ pos 7 ∷ pos 4 ∷ pos 4 ∷ pos 49 ∷ []
 abbrev threeByThree : List ℤ
 threeByThree = pos 10 ∷ pos 7 ∷ pos 49 ∷ pos 4 ∷ pos 4 ∷ pos 1 ∷ pos 20 ∷ pos 9 ∷ pos 30 ∷ []
 
+-- a bright end, in lines of two and of three lows: the border of kernel 2
+abbrev brightEnd : List ℤ
+brightEnd = pos 0 ∷ pos 0 ∷ pos 64 ∷ pos 64 ∷ []
+
+abbrev brightMiddle : List ℤ
+brightMiddle = pos 0 ∷ pos 0 ∷ pos 64 ∷ pos 64 ∷ pos 0 ∷ pos 0 ∷ []
+
+abbrev brightOdd : List ℤ
+brightOdd = pos 0 ∷ pos 0 ∷ pos 64 ∷ pos 64 ∷ pos 0 ∷ []
+
 -- of 8 samples only sample 3 marked
 abbrev third : List ℕ
 third = 0 ∷ 0 ∷ 0 ∷ 1 ∷ 0 ∷ 0 ∷ 0 ∷ 0 ∷ []
@@ -81,7 +91,7 @@ abbrev unpaired : List ℕ
 unpaired = 0 ∷ 0 ∷ 0 ∷ 0 ∷ 0 ∷ 0 ∷ 1 ∷ []
 
 unfoldable pub examples : List Example
-unfolding tenSevenFourFour twelve eightByFour eightByFourPlane third tenSevenFortyNine fiveSamples threeByThree thirdOfSeven unpaired
+unfolding tenSevenFourFour twelve eightByFour eightByFourPlane third tenSevenFortyNine fiveSamples threeByThree brightEnd brightMiddle brightOdd thirdOfSeven unpaired
 examples =
     line S tenSevenFourFour (pos 8 ∷ pos 4 ∷ pos 3 ∷ pos 0 ∷ [])
     ∷ line SPlusP tenSevenFourFour (pos 8 ∷ pos 4 ∷ pos 2 ∷ negℤ (pos 1) ∷ [])
@@ -97,7 +107,7 @@ examples =
     ∷ pos 291 ∷ pos 563 ∷ negℤ (pos 91) ∷ negℤ (pos 312) ∷ negℤ (pos 422) ∷ pos 712 ∷ [])
     ∷ line TT twelve
     (pos 227 ∷ pos 730 ∷ pos 914 ∷ pos 505 ∷ pos 632 ∷ pos 411
-    ∷ pos 307 ∷ pos 615 ∷ negℤ (pos 130) ∷ negℤ (pos 323) ∷ negℤ (pos 407) ∷ pos 696 ∷ [])
+    ∷ pos 330 ∷ pos 615 ∷ negℤ (pos 130) ∷ negℤ (pos 323) ∷ negℤ (pos 407) ∷ pos 686 ∷ [])
     ∷ line FiveThree twelve
     (pos 74 ∷ pos 714 ∷ pos 876 ∷ pos 512 ∷ pos 542 ∷ pos 658
     ∷ negℤ (pos 473) ∷ negℤ (pos 376) ∷ pos 292 ∷ pos 218 ∷ pos 218 ∷ negℤ (pos 767) ∷ [])
@@ -107,18 +117,24 @@ examples =
     ∷ line FiveThree (negℤ (pos 7) ∷ []) (negℤ (pos 7) ∷ [])
     ∷ line S tenSevenFortyNine (pos 8 ∷ pos 49 ∷ pos 3 ∷ [])
     ∷ line SPlusP tenSevenFortyNine (pos 8 ∷ pos 49 ∷ pos 14 ∷ [])
-    ∷ line TT tenSevenFortyNine (pos 8 ∷ pos 49 ∷ pos 16 ∷ [])
+    ∷ line TT tenSevenFortyNine (pos 8 ∷ pos 49 ∷ pos 18 ∷ [])
     ∷ line FiveThree tenSevenFortyNine (negℤ (pos 1) ∷ pos 38 ∷ negℤ (pos 22) ∷ [])
     ∷ line S fiveSamples (pos 8 ∷ pos 4 ∷ pos 49 ∷ pos 3 ∷ pos 0 ∷ [])
     ∷ line SPlusP fiveSamples (pos 8 ∷ pos 4 ∷ pos 49 ∷ pos 2 ∷ pos 11 ∷ [])
     ∷ line TT fiveSamples (pos 8 ∷ pos 4 ∷ pos 49 ∷ pos 1 ∷ pos 13 ∷ [])
     ∷ line FiveThree fiveSamples (pos 10 ∷ negℤ (pos 1) ∷ pos 38 ∷ pos 0 ∷ negℤ (pos 22) ∷ [])
+    ∷ line TT (pos 10 ∷ pos 7 ∷ []) (pos 8 ∷ pos 4 ∷ [])
+    ∷ line SPlusP brightEnd (pos 0 ∷ pos 64 ∷ pos 16 ∷ pos 16 ∷ [])
+    ∷ line TT brightEnd (pos 0 ∷ pos 64 ∷ pos 23 ∷ pos 23 ∷ [])
+    ∷ line TT brightOdd (pos 0 ∷ pos 64 ∷ pos 0 ∷ pos 26 ∷ pos 1 ∷ [])
+    ∷ line TT brightMiddle (pos 0 ∷ pos 64 ∷ pos 0 ∷ pos 26 ∷ pos 1 ∷ negℤ (pos 24) ∷ [])
     ∷ shot S 1 2 2 tenSevenFourFour (pos 6 ∷ pos 1 ∷ pos 4 ∷ pos 3 ∷ [])
     ∷ shot SPlusP 1 2 2 tenSevenFourFour (pos 6 ∷ pos 1 ∷ pos 4 ∷ pos 3 ∷ [])
     ∷ shot TT 1 2 2 tenSevenFourFour (pos 6 ∷ pos 2 ∷ pos 5 ∷ pos 4 ∷ [])
     ∷ shot FiveThree 1 2 2 tenSevenFourFour (pos 7 ∷ negℤ (pos 1) ∷ negℤ (pos 5) ∷ pos 3 ∷ [])
     ∷ shot FiveThree 2 8 4 eightByFour eightByFourPlane
     ∷ shot S 2 3 3 threeByThree (pos 18 ∷ negℤ (pos 18) ∷ pos 1 ∷ negℤ (pos 7) ∷ negℤ (pos 3) ∷ pos 11 ∷ pos 4 ∷ pos 48 ∷ pos 3 ∷ [])
+    ∷ shot TT 1 3 3 threeByThree (pos 6 ∷ pos 25 ∷ pos 9 ∷ pos 14 ∷ pos 30 ∷ pos 17 ∷ pos 8 ∷ pos 51 ∷ pos 22 ∷ [])
     ∷ shot FiveThree 2 3 3 threeByThree (pos 11 ∷ pos 11 ∷ negℤ (pos 11) ∷ negℤ (pos 2) ∷ negℤ (pos 29) ∷ negℤ (pos 5) ∷ pos 0 ∷ negℤ (pos 28) ∷ pos 21 ∷ [])
     ∷ mask S third (0 ∷ 1 ∷ 0 ∷ 0 ∷ 0 ∷ 1 ∷ 0 ∷ 0 ∷ [])
     ∷ mask SPlusP third (1 ∷ 1 ∷ 1 ∷ 0 ∷ 0 ∷ 1 ∷ 0 ∷ 0 ∷ [])

@@ -404,17 +404,19 @@ pub fn every_odd_region(group: &mut Group, _: &mut Random) {
     small_region(group, 5, 3, 3);
 }
 
-/// The plane of coefficients from −2 to 1 that a case's digits are, and that
-/// picture of depth 2, for every kernel.
-fn small_plane(group: &mut Group, w: usize, h: usize) {
+/// The picture of samples from 0 to 3 steps that a case's digits are, and that
+/// plane of coefficients from −2 steps to 1, for every kernel.
+fn small_plane(group: &mut Group, w: usize, h: usize, step: u16) {
     let digits = group.case;
-    let samples: Vec<u16> = (0..w * h).map(|i| (digits >> (2 * i) & 3) as u16).collect();
-    let plane: Vec<i32> = samples.iter().map(|&s| i32::from(s) - 2).collect();
+    let digit = |i: usize| (digits >> (2 * i) & 3) as u16;
+    let samples: Vec<u16> = (0..w * h).map(|i| digit(i) * step).collect();
+    let coefficient = |&sample: &u16| i32::from(sample) - 2 * i32::from(step);
+    let plane: Vec<i32> = samples.iter().map(coefficient).collect();
     for kernel in 0..4 {
         group.compare(Call::Transform {
             kernel,
             levels: 1,
-            depth: 2,
+            depth: (3 * step).ilog2() as usize + 1,
             w,
             h,
             samples: samples.clone(),
@@ -433,13 +435,23 @@ fn small_plane(group: &mut Group, w: usize, h: usize) {
 
 /// Every such plane of 4 by 2.
 pub fn every_small_plane(group: &mut Group, _: &mut Random) {
-    small_plane(group, 4, 2);
+    small_plane(group, 4, 2, 1);
 }
 
 /// Every such row and column of 7.
 pub fn every_odd_line(group: &mut Group, _: &mut Random) {
-    small_plane(group, 7, 1);
-    small_plane(group, 1, 7);
+    small_plane(group, 7, 1, 1);
+    small_plane(group, 1, 7, 1);
+}
+
+/// Every such row and column of at most 6, from black to white: up to three
+/// lows, so that each number has both ends near.
+pub fn every_short_line(group: &mut Group, _: &mut Random) {
+    let digits = group.case;
+    for n in (1..=6).filter(|&n| digits >> (2 * n) == 0) {
+        small_plane(group, n, 1, 341);
+        small_plane(group, 1, n, 341);
+    }
 }
 
 /// The writer with every length of the stream buffer and of the results.

@@ -27,7 +27,7 @@ use random::Random;
 type Entry = (&'static str, u64, fn(&mut Group, &mut Random));
 
 #[rustfmt::skip]
-const GROUPS: [Entry; 43] = [
+const GROUPS: [Entry; 44] = [
     ("region, accepted", 4_000, arguments::region::accepted),
     ("region, one wrong argument", 9_000, arguments::region::one_wrong),
     ("region, several wrong arguments", 20_000, arguments::region::several_wrong),
@@ -56,6 +56,7 @@ const GROUPS: [Entry; 43] = [
     ("every region of 5 by 3", 1 << 15, arguments::every_odd_region),
     ("every plane of 4 by 2", 1 << 16, arguments::every_small_plane),
     ("every row and column of 7", 1 << 14, arguments::every_odd_line),
+    ("every row and column to 6", 1 << 12, arguments::every_short_line),
     ("streams, whole", 4_000, streams::whole),
     ("streams, result arrays", 60, streams::result_lengths),
     ("streams, buffer lengths", 200, streams::buffer_lengths),

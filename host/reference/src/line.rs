@@ -18,17 +18,33 @@ fn nearest(numbers: &[i64], index: i64) -> i64 {
     numbers[index.clamp(0, last) as usize]
 }
 
+/// Kernel 2's low at the index, which is at most two past an end: L(−1) is L(0),
+/// L(−2) is L(1), L(M) is L(M−1), L(M+1) is L(M−2). With M = 1 every index is 0.
+fn reflected(lows: &[i64], index: i64) -> i64 {
+    let m = lows.len() as i64;
+    let inside = match index {
+        _ if m == 1 => 0,
+        -1 => 0,
+        -2 => 1,
+        _ if index == m => m - 1,
+        _ if index == m + 1 => m - 2,
+        _ => index,
+    };
+    lows[inside as usize]
+}
+
 /// What kernels 1 and 2 subtract from the high of kernel 0.
 fn prediction(kernel: usize, lows: &[i64], n: usize) -> i64 {
     let n = n as i64;
-    let low = |index| nearest(lows, index);
     match kernel {
         0 => 0,
-        1 => floor(low(n - 1) - low(n + 1), 4),
-        2 => floor(
-            -3 * low(n - 2) + 22 * low(n - 1) - 22 * low(n + 1) + 3 * low(n + 2) - 32,
-            64,
-        ),
+        1 => floor(nearest(lows, n - 1) - nearest(lows, n + 1), 4),
+        2 => {
+            let low = |index| reflected(lows, index);
+            let outer = 3 * (low(n + 2) - low(n - 2));
+            let inner = 22 * (low(n - 1) - low(n + 1));
+            floor(outer + inner - 32, 64)
+        }
         _ => unreachable!("kernel 3 does not predict from the lows of kernel 0"),
     }
 }
@@ -175,12 +191,39 @@ mod tests {
         }
         check(0, &[10, 7, 49], &[8, 49, 3]);
         check(1, &[10, 7, 49], &[8, 49, 14]);
-        check(2, &[10, 7, 49], &[8, 49, 16]);
+        check(2, &[10, 7, 49], &[8, 49, 18]);
         check(3, &[10, 7, 49], &[-1, 38, -22]);
         check(0, &[10, 7, 4, 4, 49], &[8, 4, 49, 3, 0]);
         check(1, &[10, 7, 4, 4, 49], &[8, 4, 49, 2, 11]);
         check(2, &[10, 7, 4, 4, 49], &[8, 4, 49, 1, 13]);
         check(3, &[10, 7, 4, 4, 49], &[10, -1, 38, 0, -22]);
+    }
+
+    /// Kernel 2 with one, two and three lows, where both borders are near; kernel
+    /// 1 keeps the nearest index.
+    #[test]
+    fn worked_borders() {
+        check(2, &[0, 0, 64, 64], &[0, 64, 23, 23]);
+        check(1, &[0, 0, 64, 64], &[0, 64, 16, 16]);
+        check(2, &[10, 7], &[8, 4]);
+        check(2, &[0, 0, 64, 64, 0], &[0, 64, 0, 26, 1]);
+        check(2, &[0, 0, 64, 64, 0, 0], &[0, 64, 0, 26, 1, -24]);
+    }
+
+    /// One past an end the nearest index and the reflected one are the same, so
+    /// kernel 1, which looks no further, has one rule.
+    #[test]
+    fn one_past_an_end_is_the_end() {
+        for m in 1..6 {
+            let lows = noise(m, m);
+            for index in -1..=m as i64 {
+                assert_eq!(
+                    reflected(&lows, index),
+                    nearest(&lows, index),
+                    "{m}, {index}"
+                );
+            }
+        }
     }
 
     fn check_marks(kernel: usize, x: &str, line: &str) {

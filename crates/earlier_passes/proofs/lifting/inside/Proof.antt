@@ -1,18 +1,30 @@
 -- `lifting::inside` is the border rule. Assumes nothing.
 use native.Mathlib.Omega.{arith}
+use mathlib.Core.Path.{_≡_}
 use mathlib.Core.Logic.{⊎-elim}
 use borrow.Author.Needs.{needs}
-use Rattle.line.specs.Transform as line
+use Rattle.line.specs.Transform.{upward}
+use Rattle.line.proofs.Border.{turned-here, turned-down}
 use Rattle.earlier_passes.proofs.lifting.inside.Statement.{statement}
 use Rattle.earlier_passes.proofs.lifting.inside.Tie as tie
 
+turned : (c : tie.Joined1) → upward (c .before .args .u) (c .before .args .d) ≡ c .if1 .i
+turned c = ⊎-elim (λ w. omega arith) (λ w. omega arith) (c .if1 .came)
+
 returns : tie.Need-returns
-unfolding line.inside
-returns c = ⊎-elim (λ w. omega arith) (λ w. omega arith) (c .before .if1 .came)
+returns c = omega (arith, turned-here (c .before .before .args .m) _ _ _ (turned (c .before)) (omega arith))
 
 returns-2 : tie.Need-returns-2
-unfolding line.inside
-returns-2 c = ⊎-elim (λ w. omega arith) (λ w. omega arith) (c .before .if1 .came)
+returns-2 c = let j = c .before .before .before in omega (arith, c .least .ensures, turned-down (j .before .args .m) _ _ _ (turned j) (omega arith))
 
 pub inside-spec : {M : Type 1} → statement M
-inside-spec = tie.close (tie.spec (λ c. search needs) returns returns-2)
+inside-spec =
+    tie.close (tie.spec
+    (λ c. search needs)
+    (λ c. search needs)
+    (λ c. search needs)
+    (λ c. search needs)
+    (λ c κs. search needs)
+    (λ c. search needs)
+    returns
+    returns-2)
