@@ -2,7 +2,6 @@
 ghost use mathlib.Core.Path.{_≡_};
 ghost use Prim.Native.Nat.{_+_, _*_, _^_, _≤_, _<_};
 ghost use Rattle.kernel.specs.declared.Kernel.{Kernel};
-ghost use Rattle.line.specs.Transform as line;
 ghost use Rattle.earlier_passes.specs.Strip.{Strips};
 ghost use Rattle.earlier_passes.specs.Lifting.{stepReach, tapsOf, Straight, Fit, Lifted};
 ghost use Rattle.earlier_passes.specs.Lines.{Samples, Coefficients, Forward, Predicted, Back, Unpredicted};
@@ -22,29 +21,16 @@ fn reach_of(s: Step) -> usize
     }
 }
 
-// The index among m that stands for u - d: it is reflected about the lower border, and then about the upper one.
-fn inside(m: usize, u: usize, d: usize) -> usize
-    requires { ⌜ 0 < m ⌝ }
-    ensures { λ r. ⌜ r ≡ line.inside m u d ⌝ }
-{
-    let i = if u < d { d - u - 1 } else { u - d };
-    if i < m {
-        i
-    } else {
-        m - 1 - whole::least(i - m, m - 1)
-    }
-}
-
 // Where row n and the rows around it begin.
 fn taps(s: Step, m: usize, lanes: usize, n: usize) -> Taps
     requires { ⌜ (n < m) × (m < 2 ^ 32) × (m * lanes < 2 ^ 32) ⌝ }
     ensures { λ r. ⌜ r ≡ tapsOf s m lanes n ⌝ }
 {
     let reach = reach_of(s);
-    let before2 = inside(m, n, reach);
-    let before = inside(m, n, 1);
-    let after = inside(m, n + 1, 0);
-    let after2 = inside(m, n + reach, 0);
+    let before2 = line::inside(m, n, reach);
+    let before = line::inside(m, n, 1);
+    let after = line::inside(m, n + 1, 0);
+    let after2 = line::inside(m, n + reach, 0);
     Taps {
         here: n * lanes,
         before2: before2 * lanes,

@@ -35,19 +35,6 @@ fn look_ahead(s: Step) -> usize
     }
 }
 
-// The index among m that stands for u - d: it is reflected about the lower border, and then about the upper one.
-fn inside(m: usize, u: usize, d: usize) -> usize
-    requires { ⌜ 0 < m ⌝ }
-    ensures { λ r. ⌜ r ≡ line.inside m u d ⌝ }
-{
-    let i = if u < d { d - u - 1 } else { u - d };
-    if i < m {
-        i
-    } else {
-        m - 1 - whole::least(i - m, m - 1)
-    }
-}
-
 // Where row n of the part at `part` begins, in a buffer of `size` numbers. It is inside; the compiler, which is not told so, leaves each
 // row its own test that it does not overlap the rows it is computed from. One test for all rows fails where the parts are interleaved.
 fn row_start(size: usize, part: usize, n: usize, step: usize) -> usize
@@ -63,7 +50,7 @@ fn row_near(size: usize, part: usize, m: usize, u: usize, d: usize, step: usize)
     requires { ⌜ In part step m 1 size ⌝ }
     ensures { λ r. ⌜ r ≡ part + line.inside m u d * step ⌝ }
 {
-    row_start(size, part, inside(m, u, d), step)
+    row_start(size, part, line::inside(m, u, d), step)
 }
 
 // Where row n of the part at `to` begins, and those of the m rows of the part at `from` that it is moved from.

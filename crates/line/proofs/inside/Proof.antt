@@ -1,12 +1,12 @@
--- `lifting::inside` is the border rule. Assumes nothing.
+-- `line::inside` is the border rule. Assumes nothing.
 use native.Mathlib.Omega.{arith}
 use mathlib.Core.Path.{_≡_}
 use mathlib.Core.Logic.{⊎-elim}
 use borrow.Author.Needs.{needs}
 use Rattle.line.specs.Transform.{upward}
 use Rattle.line.proofs.Border.{turned-here, turned-down}
-use Rattle.earlier_passes.proofs.lifting.inside.Statement.{statement}
-use Rattle.earlier_passes.proofs.lifting.inside.Tie as tie
+use Rattle.line.proofs.inside.Statement.{statement}
+use Rattle.line.proofs.inside.Tie as tie
 
 turned : (c : tie.Joined1) → upward (c .before .args .u) (c .before .args .d) ≡ c .if1 .i
 turned c = ⊎-elim (λ w. omega arith) (λ w. omega arith) (c .if1 .came)
