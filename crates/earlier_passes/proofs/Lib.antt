@@ -1,6 +1,5 @@
 -- The laws of the earlier passes.
 pub mod Quotients
-pub mod Run
 pub mod Wide
 pub mod Writes
 pub mod Moves

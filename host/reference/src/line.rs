@@ -41,9 +41,8 @@ fn prediction(kernel: usize, lows: &[i64], n: usize) -> i64 {
         1 => floor(nearest(lows, n - 1) - nearest(lows, n + 1), 4),
         2 => {
             let low = |index| reflected(lows, index);
-            let outer = 3 * (low(n + 2) - low(n - 2));
-            let inner = 22 * (low(n - 1) - low(n + 1));
-            floor(outer + inner - 32, 64)
+            let sum = -3 * low(n - 2) + 22 * low(n - 1) - 22 * low(n + 1) + 3 * low(n + 2);
+            floor(sum - 32, 64)
         }
         _ => unreachable!("kernel 3 does not predict from the lows of kernel 0"),
     }

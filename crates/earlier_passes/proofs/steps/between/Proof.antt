@@ -2,12 +2,13 @@
 use mathlib.Core.Path.{_∙_}
 use borrow.Author.Needs.{needs, sfits-of}
 use mir.Facts.{toZ-ofZ}
-use Rattle.earlier_passes.proofs.Run.{wide, _⊕_, Run, l, r, asks}
+use mir.Syntax.{w64}
+use Rattle.whole.proofs.Run.{wide, _⊕_, Run, l, r, asks}
 use Rattle.earlier_passes.proofs.Wide.{sum, floored}
 use Rattle.earlier_passes.proofs.steps.between.Statement.{statement}
 use Rattle.earlier_passes.proofs.steps.between.Tie as tie
 
-run : (c : tie.Start) → Run (wide (c .args .here) ⊕ wide (c .args .after))
+run : (c : tie.Start) → Run w64 (wide (c .args .here) ⊕ wide (c .args .after))
 run c = sum (c .fits .here) (c .fits .after)
 
 pub between-spec : {M : Type 1} → statement M

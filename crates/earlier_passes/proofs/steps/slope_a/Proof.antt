@@ -2,12 +2,13 @@
 use mathlib.Core.Path.{_∙_}
 use borrow.Author.Needs.{needs, sfits-of}
 use mir.Facts.{toZ-ofZ}
-use Rattle.earlier_passes.proofs.Run.{wide, _⊖_, Run, l, r, asks}
+use mir.Syntax.{w64}
+use Rattle.whole.proofs.Run.{wide, _⊖_, Run, l, r, asks}
 use Rattle.earlier_passes.proofs.Wide.{less, floored}
 use Rattle.earlier_passes.proofs.steps.slope_a.Statement.{statement}
 use Rattle.earlier_passes.proofs.steps.slope_a.Tie as tie
 
-run : (c : tie.Start) → Run (wide (c .args .before) ⊖ wide (c .args .after))
+run : (c : tie.Start) → Run w64 (wide (c .args .before) ⊖ wide (c .args .after))
 run c = less (c .fits .before) (c .fits .after)
 
 pub slope-a-spec : {M : Type 1} → statement M

@@ -4,10 +4,11 @@ use native.Mathlib.Omega.{arith}
 use borrow.Author.Needs.{needs, sfits-of}
 use lib.IntN.{ℤ, pos, _+ℤ_, _-ℤ_, _*ℤ_}
 use mir.Facts.{toZ-ofZ}
+use mir.Syntax.{w64}
 use Rattle.whole.specs.Floor.{floorDiv}
 use Rattle.whole.proofs.Linear.{ι-split, lin, size}
 use Rattle.whole.proofs.Floored.{whole}
-use Rattle.earlier_passes.proofs.Run.{wide, lit, _⊕_, _⊖_, _⊛_, Run, l, r, asks}
+use Rattle.whole.proofs.Run.{wide, lit, _⊕_, _⊖_, _⊛_, Run, l, r, asks}
 use Rattle.line.specs.Formulas.{slopeTT}
 use Rattle.earlier_passes.proofs.Wide.{floored}
 use Rattle.earlier_passes.proofs.steps.slope_tt.Statement.{statement}
@@ -16,7 +17,7 @@ use Rattle.earlier_passes.proofs.steps.slope_tt.Tie as tie
 regroup : (p q s t : ℤ) → floorDiv (pos 22 *ℤ (q -ℤ s) +ℤ pos 3 *ℤ (t -ℤ p) -ℤ pos 32) 64 ≡ slopeTT p q s t
 regroup p q s t = rw (ι-split p, ι-split q, ι-split s, ι-split t) (simp whole (omega arith))
 
-run : (c : tie.Start) → Run (lit 22 ⊛ (wide (c .args .before) ⊖ wide (c .args .after)) ⊕ lit 3 ⊛ (wide (c .args .after2) ⊖ wide (c .args .before2)) ⊖ lit 32)
+run : (c : tie.Start) → Run w64 (lit 22 ⊛ (wide (c .args .before) ⊖ wide (c .args .after)) ⊕ lit 3 ⊛ (wide (c .args .after2) ⊖ wide (c .args .before2)) ⊖ lit 32)
 run c =
     let p = c .args .before2 in let q = c .args .before in let s = c .args .after in let t = c .args .after2 in
     record { fit = rw (ι-split p, ι-split q, ι-split s, ι-split t) (simp lin (omega (arith, size p, size q, size s, size t))) }

@@ -3,13 +3,14 @@ use mathlib.Core.Path.{_∙_}
 use native.Mathlib.Omega.{arith}
 use borrow.Author.Needs.{needs, sfits-of}
 use mir.Facts.{toZ-ofZ}
+use mir.Syntax.{w64}
 use Rattle.whole.proofs.Linear.{ι-split, lin, size}
-use Rattle.earlier_passes.proofs.Run.{wide, lit, _⊕_, Run, l, r, asks}
+use Rattle.whole.proofs.Run.{wide, lit, _⊕_, Run, l, r, asks}
 use Rattle.earlier_passes.proofs.Wide.{sum, floored}
 use Rattle.earlier_passes.proofs.steps.smoothing.Statement.{statement}
 use Rattle.earlier_passes.proofs.steps.smoothing.Tie as tie
 
-run : (c : tie.Start) → Run (wide (c .args .before) ⊕ wide (c .args .here) ⊕ lit 2)
+run : (c : tie.Start) → Run w64 (wide (c .args .before) ⊕ wide (c .args .here) ⊕ lit 2)
 run c =
     let a = c .args .before in let b = c .args .here in
     record { fit = (sum (c .fits .before) (c .fits .here) .fit, tt, rw (ι-split a, ι-split b) (simp lin (omega (arith, size a, size b)))) }
