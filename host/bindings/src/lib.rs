@@ -110,6 +110,19 @@ mod raw {
             results: *mut u64,
             results_len: usize,
         ) -> u64;
+        pub fn dhiirqobaal_arrived(
+            stream: *mut u8,
+            stream_len: usize,
+            results: *mut u64,
+            results_len: usize,
+        ) -> u64;
+        pub fn dhiirqobaal_header(
+            stream: *const u8,
+            stream_len: usize,
+            results: *mut u64,
+            results_len: usize,
+        ) -> u64;
+        pub fn dhiirqobaal_version() -> u64;
     }
 }
 
@@ -308,4 +321,31 @@ pub fn body(stream: &[u8], results: &mut [u64]) -> u64 {
             results.len(),
         )
     }
+}
+
+pub fn arrived(stream: &mut [u8], results: &mut [u64]) -> u64 {
+    unsafe {
+        raw::dhiirqobaal_arrived(
+            stream.as_mut_ptr(),
+            stream.len(),
+            results.as_mut_ptr(),
+            results.len(),
+        )
+    }
+}
+
+pub fn header(stream: &[u8], results: &mut [u64]) -> u64 {
+    unsafe {
+        raw::dhiirqobaal_header(
+            stream.as_ptr(),
+            stream.len(),
+            results.as_mut_ptr(),
+            results.len(),
+        )
+    }
+}
+
+/// The library's version: 10,000 times the major number, 100 times the minor one, and the patch.
+pub fn version() -> u64 {
+    unsafe { raw::dhiirqobaal_version() }
 }

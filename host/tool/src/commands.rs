@@ -6,7 +6,7 @@ use crate::codec::{self, Reading, Setting, Written};
 use crate::compare::{differences, Differences};
 use crate::failure::{Failure, STATUS_DIFFERENT};
 use crate::files;
-use crate::pgm::{self, Picture};
+use picture::{Format, Picture};
 use std::path::Path;
 
 fn name(path: &Path) -> String {
@@ -16,7 +16,7 @@ fn name(path: &Path) -> String {
 fn read_picture(path: &Path) -> Result<Picture, Failure> {
     let file = files::read(path)?;
     files::progress(file.len(), "reading the picture");
-    pgm::parse(&file).map_err(|problem| Failure::Input(format!("{}: {problem}", path.display())))
+    picture::parse(&file).map_err(|problem| Failure::Input(format!("{}: {problem}", path.display())))
 }
 
 /// The bytes of a stream's file. Whatever is done with a stream, it is read first, and that takes long if it is large.
@@ -151,7 +151,7 @@ pub fn show(path: &Path, output: &Path) -> Result<(), Failure> {
     if !reading.whole {
         files::tell("the marked part is not whole: the rectangles are not exact");
     }
-    files::write(output, &pgm::format(&shown(&reading)?))
+    files::write(output, &picture::format(&shown(&reading)?, Format::Pgm).map_err(Failure::Input)?)
 }
 
 /// Exit status 0 if no sample differs, else 1.

@@ -8,7 +8,7 @@ use crate::compare::differences;
 use crate::failure::Failure;
 use crate::files;
 use crate::panel;
-use crate::pgm::{self, Picture};
+use picture::{Format, Picture};
 use std::path::Path;
 
 const KERNEL: usize = 3;
@@ -25,7 +25,7 @@ struct Shot<'a> {
 pub fn run(folder: &Path) -> Result<(), Failure> {
     files::make_folder(folder)?;
     let panel = panel::draw();
-    files::write(&folder.join("panel.pgm"), &pgm::format(&panel))?;
+    files::write(&folder.join("panel.pgm"), &picture::format(&panel, Format::Pgm).map_err(Failure::Input)?)?;
     let region = codec::region(&panel::rectangles(), panel.width, panel.height)?;
     let written = written(&panel, &choice(KERNEL))?;
     files::write(&folder.join("panel.stream"), &written.stream)?;
@@ -99,7 +99,7 @@ fn row(shot: &Shot, label: &str, length: usize) -> Result<String, Failure> {
     let picture = shown(&reading)?;
     let name = format!("cut-{length:07}");
     files::write(&shot.folder.join(format!("{name}.stream")), &stream)?;
-    files::write(&shot.folder.join(format!("{name}.pgm")), &pgm::format(&picture))?;
+    files::write(&shot.folder.join(format!("{name}.pgm")), &picture::format(&picture, Format::Pgm).map_err(Failure::Input)?)?;
     let compared = |wanted| differences(&shot.panel.samples, &picture.samples, &shot.region, wanted, picture.width);
     let (inside, outside) = (compared(1), compared(0));
     let region = match (inside.count, reading.whole) {

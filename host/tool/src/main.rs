@@ -10,7 +10,6 @@ mod failure;
 mod files;
 mod font;
 mod panel;
-mod pgm;
 
 use args::Command;
 use failure::Failure;

@@ -1,7 +1,7 @@
 //! Draws an operator panel: title, part numbers, lamps, gauges and buttons on a shaded plate.
 
 use crate::font;
-use crate::pgm::Picture;
+use picture::Picture;
 
 pub const WIDTH: usize = 1366;
 pub const HEIGHT: usize = 768;

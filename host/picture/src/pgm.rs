@@ -1,21 +1,6 @@
 //! PGM pictures: P5 (binary) and P2 (plain), maximum value up to 65,535.
 
-/// A grey picture, row by row.
-#[derive(Clone, Debug, PartialEq)]
-pub struct Picture {
-    pub width: usize,
-    pub height: usize,
-    /// The maximum value; no sample is above it.
-    pub top: u16,
-    pub samples: Vec<u16>,
-}
-
-impl Picture {
-    /// The number of bits that the maximum value needs.
-    pub fn depth(&self) -> usize {
-        (u16::BITS - self.top.leading_zeros()) as usize
-    }
-}
+use crate::Picture;
 
 /// The part of a file that has not been read yet.
 struct Input<'a> {
