@@ -20,10 +20,11 @@ use Rattle.refusal.proofs.Ordered.{passes-test, numbered, accepted-both, accept
 use Rattle.refusal.proofs.Passed.{neither}
 use Rattle.header.specs.Header.{number, frontLength, badHeader, badVersion, bodyTests, bodyOf}
 use Rattle.header.specs.Fields.{bytesOf, numbers, shotOf}
+use Rattle.header.specs.Arrival.{cutTo}
 use Rattle.header.proofs.Fields.{bytes-length, number-at}
-use Rattle.header.proofs.Parts.{else-length, good-long, good-front}
+use Rattle.header.proofs.Parts.{else-length, good-front, good-total}
 use Rattle.codestream.specs.Reading.{answerOf, readTests}
-use Rattle.codestream.specs.Cutting.{cutTo, badCut, cutTests, Bytes}
+use Rattle.codestream.specs.Cutting.{badCut, cutTests, Bytes}
 
 number-small : (n : ℕ) (l : List ℕ) (at : ℕ) → Bytes l → number n l at < 256 ^ n
 unfolding number
@@ -82,7 +83,7 @@ module _ (l : List ℕ) (c : ℕ) (bytes : Bytes l) (ok : accepted (bodyTests l)
   good-version = passes-test (badVersion l) 12 _ (passes-test (badHeader l) 11 _ ok .1) .0
 
   field : number 4 l 0 + 4 ≡ length l
-  field = eqb-true _ _ (not-false _ (sym (else-length l (good-long l good-header) (good-front l good-header)) ∙ good-header))
+  field = good-total l good-header
 
   small : c - 4 < 4294967296
   small = omega (arith, field, number-small 4 l 0 bytes)

@@ -8,3 +8,4 @@ pub mod RoundTrip
 pub mod Buffer
 pub mod Planes
 pub mod Cuts
+pub mod Arrivals

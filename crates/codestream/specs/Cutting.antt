@@ -1,6 +1,5 @@
 -- What the cutter of codestreams answers and leaves in its buffers (docs/FORMAT.md, "Cutting", "Refusals" and "Calls").
 --
---   cutTo l c               == the stream l cut to c bytes: its first c bytes with c − 4 in the length field
 --   badCut l c              == 15: wanted length below the region mark or above the stream, or marked part not whole
 --   cutTests l n m c o      == the refusals of the call: those of the reader, then 15, 11; n, m and o are the lengths of plane, mask and stream buffer
 --   lengthTests l c o       == those behind the reader's: 15, 11
@@ -14,16 +13,13 @@
 -- Assumes nothing: these are definitions.
 use mathlib.Core.Bool.{Bool, not, _||_}
 use mathlib.Core.List.{List, [], _∷_, _++_}
-use Prim.Native.Nat.{ℕ, _-_, _<_}
+use Prim.Native.Nat.{ℕ, _<_}
 use lib.Dec.{ltb, eqb}
-use lib.ListN.{length, take, drop, getD}
+use lib.ListN.{length, drop, getD}
 use Rattle.line.specs.Cells.{choose}
 use Rattle.refusal.specs.Numbers.{Test, test, first}
-use Rattle.header.specs.Fields.{bytesOf}
+use Rattle.header.specs.Arrival.{cutTo}
 use Rattle.codestream.specs.Reading.{answerOf, readTests}
-
-abbrev pub cutTo : List ℕ → ℕ → List ℕ
-cutTo l c = bytesOf 4 (c - 4) ++ drop 4 (take c l)
 
 abbrev pub badCut : List ℕ → ℕ → Bool
 badCut l c = not (answerOf l .whole) || ltb c (answerOf l .regionMark) || ltb (length l) c

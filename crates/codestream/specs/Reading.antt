@@ -3,9 +3,10 @@
 --   answerOf l              == what the body of the stream l gives, under the mask that its header's rectangles make
 --   planeOf l               == its coefficients, row by row
 --   badPlanes T             == 14: T above 22
+--   headerTests l           == the refusals of a header, in order: 12, 13, 1, 2, 3, 4, 7, 8, 14
 --   readTests l n m         == the refusals of the call, in order: 12, 13, 1, 2, 3, 4, 7, 8, 14, 5, 16;
 --                              n and m are the lengths of the plane buffer and of the mask buffer
---   otherTests l n m        == those behind the setting's
+--   bufferTests l n m       == those behind the header's
 --   fillingTest l           == the last of them, 16
 --   Numbers                 == the call's result numbers: refusal, marks, whole, region mark, q
 --   noShot                  == the header under a refusal: every number 0
@@ -47,16 +48,19 @@ badPlanes T = ltb 22 T
 abbrev pub fillingTest : List ℕ → List Test
 fillingTest l = test (badFilling (bodyOf l) (answerOf l .end)) 16 ∷ []
 
-abbrev pub otherTests : List ℕ → ℕ → ℕ → List Test
-otherTests l n m =
+abbrev pub bufferTests : List ℕ → ℕ → ℕ → List Test
+bufferTests l n m =
     let s = shotOf l in
-    rectangleTests (s .width) (s .height) (s .rectangles)
-    ++ (test (badPlanes (s .planes)) 14 ∷ test (badLength (s .width) (s .height) n) 5 ∷ test (badLength (s .width) (s .height) m) 5 ∷ fillingTest l)
+    test (badLength (s .width) (s .height) n) 5 ∷ test (badLength (s .width) (s .height) m) 5 ∷ fillingTest l
+
+abbrev pub headerTests : List ℕ → List Test
+headerTests l =
+    let s = shotOf l in
+    bodyTests l
+    ++ (settingTests (s .kernel) (s .levels) (s .depth) (s .width) (s .height) ++ (rectangleTests (s .width) (s .height) (s .rectangles) ++ (test (badPlanes (s .planes)) 14 ∷ [])))
 
 abbrev pub readTests : List ℕ → ℕ → ℕ → List Test
-readTests l n m =
-    let s = shotOf l in
-    bodyTests l ++ (settingTests (s .kernel) (s .levels) (s .depth) (s .width) (s .height) ++ otherTests l n m)
+readTests l n m = headerTests l ++ bufferTests l n m
 
 pub record Numbers : Type 0 where
   pub refusal : ℕ

@@ -15,9 +15,10 @@ use Rattle.refusal.specs.declared.Refusal.{Refusal}
 use Rattle.refusal.proofs.Named.{named}
 use Rattle.refusal.proofs.Ordered.{none, here, next, numbered, first-append, passes-test}
 use Rattle.header.specs.Header.{frontLength}
+use Rattle.header.specs.Arrival.{cutTo}
 use Rattle.codestream.specs.Reading.{answerOf, readTests, readNumbers, planeAfter, maskAfter}
 use Rattle.codestream.specs.Reading as reading
-use Rattle.codestream.specs.Cutting.{cutTo, badCut, lengthTests, cutTests, cutNumbers, streamAfter}
+use Rattle.codestream.specs.Cutting.{badCut, lengthTests, cutTests, cutNumbers, streamAfter}
 use Rattle.decoder.specs.Answers as decoder
 use Rattle.decoder.specs.declared.Body.{Body}
 use Rattle.decoder.specs.declared.Outcome.{Outcome as Outcome′}

@@ -10,17 +10,9 @@ use Rattle.transfer.specs.Copied.{Copied}
 use Rattle.transfer.proofs.Copies.{front-cell}
 use Rattle.header.specs.Fields.{bytesOf}
 use Rattle.header.specs.Writing.{Laid}
+use Rattle.header.specs.Arrival.{cutTo}
 use Rattle.header.proofs.Fields.{bytes-length}
-use Rattle.codestream.specs.Cutting.{cutTo}
-
-module _ (p l : List ℕ) {m : List ℕ} (n : ℕ) (size : length p ≡ n) (room : n ≤ length l) (len : length m ≡ length l) where
-  -- the bytes p in front of what l held
-  pub in-front : ((i : ℕ) → i < n → getD m i 0 ≡ getD p i 0) → ((i : ℕ) → n ≤ i → getD m i 0 ≡ getD l i 0) → m ≡ p ++ drop n l
-  in-front f g = ext-getD 0 m (p ++ drop n l) (len ∙ omega (arith, length-append p (drop n l), length-drop n l))
-      (λ i h. by-lt i n
-      (λ lt. f i lt ∙ sym (List·getD-append p (drop n l) 0 i (omega arith)))
-      (λ ge. let j = i - n in let d : length p + j ≡ i = omega arith in let e : n + j ≡ i = omega arith in
-      g i ge ∙ ap (λ (k : ℕ). getD l k 0) (sym e) ∙ sym (getD-drop n l j 0) ∙ sym (getD-append-add p (drop n l) j 0) ∙ ap (λ (k : ℕ). getD (p ++ drop n l) k 0) d))
+use Rattle.header.proofs.Writing.{in-front}
 
 -- the first n bytes of s, copied
 pub copied : (s l : List ℕ) {m : List ℕ} (n : ℕ) → n ≤ length s → n ≤ length l → Copied 0 s 0 0 n l m → m ≡ take n s ++ drop n l

@@ -2,38 +2,37 @@
 use mathlib.Core.Path.{_≡_, refl, sym, ap, _∙_, subst}
 use mathlib.Core.Bool.{Bool, true, false, false≢true}
 use mathlib.Core.List.{List, [], _∷_}
-use Prim.Native.Nat.{ℕ, _*_, _/_, _≤_}
+use Prim.Native.Nat.{ℕ, _*_, _≤_}
 use native.Mathlib.Omega.{arith}
 use lib.Dec.{eqb}
 use lib.IntN.{ℤ}
 use lib.ListN.{length, getD, take, replicate}
-use lib.Seq.{length-take-le}
 use borrow.Author.Tests.{ne-eqb}
 use Rattle.kernel.specs.declared.Kernel.{Kernel}
-use Rattle.kernel.specs.Kernels.{theKernel}
 use Rattle.line.proofs.Lists.{listed-length}
 use Rattle.refusal.specs.Numbers.{test, refusalNumber, first}
-use Rattle.refusal.specs.Tests.{badRectangles}
 use Rattle.refusal.specs.declared.Refusal.{Refusal}
 use Rattle.refusal.proofs.Named.{named}
-use Rattle.header.specs.Header.{number, badHeader, badVersion}
-use Rattle.header.specs.Fields.{numbers, shotOf}
-use Rattle.shot.specs.Inner.{settingNumber}
+use Rattle.refusal.proofs.Passed.{Sides}
+use Rattle.header.specs.Header.{number}
+use Rattle.header.specs.Fields.{shotOf}
 use Rattle.shot.specs.Shots.{maskBytes, shotMask}
+use Rattle.shot.specs.Inner.{Drawable}
+use Rattle.shot.specs.Settings.{settingNumber}
 use Rattle.shot.specs.declared.Setting.{Setting}
 use Rattle.shot.specs.declared.Setting.the-variants.{Refused as Refused′}
-use Rattle.shot.proofs.Settings.{setting-most}
-use Rattle.codestream.specs.Reading.{otherTests, fillingTest, readTests, readNumbers, shotRead, planeAfter, maskAfter}
+use Rattle.codestream.specs.Reading.{headerTests, bufferTests, fillingTest, readTests, readNumbers, shotRead, planeAfter, maskAfter}
 use Rattle.codestream.specs.Reading as reading
-use Rattle.decoder.specs.Inner.{refusedWith, rectangleArray, Found, Answered}
-use Rattle.decoder.specs.Answers.{numbersOf, headerFor}
+use Rattle.header_reader.specs.declared.Header.{Header}
+use Rattle.header_reader.specs.Answers.{headerFor}
+use Rattle.header_reader.proofs.Arrays.{numbers-length, array-front}
+use Rattle.decoder.specs.Inner.{refusedWith, Taken, Found, Answered}
+use Rattle.decoder.specs.Answers.{numbersOf}
 use Rattle.decoder.specs.declared.Body.{Body}
-use Rattle.decoder.specs.declared.Header.{Header}
 use Rattle.decoder.specs.declared.Outcome.{Outcome}
 use Rattle.decoder.specs.declared.Outcome.the-variants.{Done, Refused}
 use Rattle.decoder.specs.declared.Reading.{Reading}
-use Rattle.decoder.proofs.Arrays.{numbers-length, array-front}
-use Rattle.decoder.proofs.Tests.{settingFirst, setting-first, others-first}
+use Rattle.decoder.proofs.Tests.{passed, header-most, refused-first, passed-first}
 
 -- ---- refusals
 module _ {l : List ℕ} {plane : List ℤ} {mask : List ℕ} where
@@ -66,39 +65,46 @@ module _ {l : List ℕ} {plane : List ℤ} {mask : List ℕ} where
       pub body-done : (x : Body) {h : Header} → o ≡ Done x → h ≡ headerFor (shotOf l) → Answered f l plane plane′ mask mask′ (record { outcome = Done x; header = h })
       body-done x {h} e i = subst (λ (f : ℕ). Answered f l plane plane′ mask mask′ (record { outcome = Done x; header = h })) is (done-so _ x h i (subst (λ (o : Outcome). Found (first (fillingTest l)) l plane plane′ drawn mask′ o) e found))
 
--- ---- the header, its rectangles and its mask
-module _ (l : List ℕ) {c : ℕ} {a : List ℕ} (count : c ≡ number 1 l 12) (array : a ≡ rectangleArray l c) where
-  pub header-is : {k J D W H T : ℕ} → k ≡ shotOf l .kernel → J ≡ shotOf l .levels → D ≡ shotOf l .depth → W ≡ shotOf l .width → H ≡ shotOf l .height → T ≡ shotOf l .planes
-      → _≡_ {A = Header} (record { kernel = k; levels = J; depth = D; width = W; height = H; planes = T; count = c; rectangles = a }) (headerFor (shotOf l))
-  header-is {k} {J} {D} {W} {H} {T} p q r s t u =
-      let n : c ≡ length (shotOf l .rectangles) / 4 = omega (arith, numbers-length (4 * number 1 l 12) l 14) in
-      let e : a ≡ rectangleArray l (number 1 l 12) = array ∙ ap (rectangleArray l) count in
-      λ i. record { kernel = p i; levels = q i; depth = r i; width = s i; height = t i; planes = u i; count = n i; rectangles = e i }
+-- ---- the rectangles of a header that passed, and their mask
+module _ (l : List ℕ) {k : Kernel} {h : Header} (t : Taken l k h) where
+  count : h .count ≡ number 1 l 12
+  count = ap (λ (h : Header). h .count) (t .header) ∙ omega (arith, numbers-length (4 * number 1 l 12) l 14)
 
-  module _ {n : ℕ} (few : c ≤ 32) (four : n ≡ 4 * c) where
-    front-is : take n a ≡ shotOf l .rectangles
-    front-is = rw (array, ← count) (array-front l c n few four)
+  pub few : h .count ≤ 32
+  few = omega (arith, passed l (t .tests) .rectangles .few, numbers-length (4 * number 1 l 12) l 14, count)
 
-    pub front-length : n ≡ length (take n a)
-    front-length = sym (length-take-le n a (rw array (omega (arith, listed-length 128 (λ i. getD (numbers (4 * c) l 14) i 0)))))
+  pub room : length (h .rectangles) ≡ 128
+  room = ap (λ (h : Header). length (h .rectangles)) (t .header) ∙ listed-length 128 (λ i. getD (shotOf l .rectangles) i 0)
 
-    pub rectangles-tested : {W H : ℕ} → W ≡ shotOf l .width → H ≡ shotOf l .height → badRectangles W H (take n a) ≡ badRectangles (shotOf l .width) (shotOf l .height) (shotOf l .rectangles)
-    rectangles-tested s t = rw (s, t, front-is)
+  pub sides : Sides (h .width) (h .height)
+  sides = rw (t .header) (passed l (t .tests) .setting .sides)
 
-    pub mask-drawn : {k : Kernel} {j J W H : ℕ} → k ≡ theKernel j → j ≡ shotOf l .kernel → J ≡ shotOf l .levels → W ≡ shotOf l .width → H ≡ shotOf l .height → maskBytes k J W H (take n a) ≡ shotMask (shotOf l)
-    mask-drawn o p q s t = rw (o, p, q, s, t, front-is)
+  module _ {n : ℕ} (four : n ≡ 4 * h .count) where
+    front-is : take n (h .rectangles) ≡ shotOf l .rectangles
+    front-is = ap (λ (h : Header). take n (h .rectangles)) (t .header) ∙ array-front l (number 1 l 12) n (omega (arith, count, few)) (omega (arith, count))
+
+    pub front-length : n ≡ length (take n (h .rectangles))
+    front-length = omega (arith, ap length front-is, numbers-length (4 * number 1 l 12) l 14, count)
+
+    pub drawable : {m : ℕ} → m ≡ h .width * h .height → Drawable (h .levels) (h .width) (h .height) (take n (h .rectangles)) m
+    drawable full =
+        let p = passed l (t .tests) in
+        record { levels = rw (t .header) (p .setting .levels .0); size = rw (t .header) (p .setting .size); inside = rw (front-is, t .header) (p .rectangles .inside); full = full }
+
+    pub mask-drawn : maskBytes k (h .levels) (h .width) (h .height) (take n (h .rectangles)) ≡ shotMask (shotOf l)
+    mask-drawn = rw (front-is, t .kernel, t .header)
 
 -- ---- the call
-module _ {l : List ℕ} {plane : List ℤ} {mask : List ℕ} (good : badHeader l ≡ false) (version : badVersion l ≡ false) where
-  pub setting-refused : {x : Reading} {o : Setting} (r : Refusal) → settingNumber o ≡ settingFirst l → o ≡ Refused′ r → x ≡ refusedWith r → Answered (first (readTests l (length plane) (length mask))) l plane plane mask mask x
-  setting-refused r e h i =
-      let n : refusalNumber r ≡ settingFirst l = sym (ap settingNumber h) ∙ e in
-      refused-answer r i (ne-eqb (refusalNumber r) 16 (omega (arith, setting-most (shotOf l .kernel) (shotOf l .levels) (shotOf l .depth) (shotOf l .width) (shotOf l .height))))
-      (setting-first l (length plane) (length mask) good version n (named r))
+module _ {l : List ℕ} {plane : List ℤ} {mask : List ℕ} where
+  pub header-refused : {x : Reading} {o : Setting} (r : Refusal) → settingNumber o ≡ first (headerTests l) → o ≡ Refused′ r → x ≡ refusedWith r
+      → Answered (first (readTests l (length plane) (length mask))) l plane plane mask mask x
+  header-refused r e h i =
+      let n : refusalNumber r ≡ first (headerTests l) = sym (ap settingNumber h) ∙ e in
+      refused-answer r i (ne-eqb (refusalNumber r) 16 (omega (arith, header-most l (length plane) (length mask)))) (refused-first l (length plane) (length mask) n (named r))
 
-  pub set-answer : {x : Reading} {plane′ : List ℤ} {mask′ : List ℕ} → 0 ≡ settingFirst l → Answered (first (otherTests l (length plane) (length mask))) l plane plane′ mask mask′ x
+  pub headed-answer : {x : Reading} {plane′ : List ℤ} {mask′ : List ℕ} → first (headerTests l) ≡ 0 → Answered (first (bufferTests l (length plane) (length mask))) l plane plane′ mask mask′ x
       → Answered (first (readTests l (length plane) (length mask))) l plane plane′ mask mask′ x
-  set-answer {x} {plane′} {mask′} e a = subst (λ (f : ℕ). Answered f l plane plane′ mask mask′ x) (others-first l (length plane) (length mask) good version e) a
+  headed-answer {x} {plane′} {mask′} e a = subst (λ (f : ℕ). Answered f l plane plane′ mask mask′ x) (passed-first l (length plane) (length mask) e) a
 
 -- its own contract
 pub entry : (l : List ℕ) {plane plane′ : List ℤ} {mask mask′ : List ℕ} {x : Reading} → Answered (first (readTests l (length plane) (length mask))) l plane plane′ mask mask′ x

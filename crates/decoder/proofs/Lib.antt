@@ -1,5 +1,4 @@
 -- The laws that the proofs of the reader of codestreams cite.
-pub mod Arrays
 pub mod Bodies
 pub mod Tests
 pub mod Answered

@@ -1,50 +1,41 @@
 -- The parts of the reader: what only inner contracts and proofs cite.
 --
---   refusedWith r      == a refusal, with a header of zeros
---   rectangleArray l k == the numbers of k rectangles of the stream l, and 0 behind them
---   Set ..             == what is known of a call once the setting is taken
---   Masked ..          == and once the mask is drawn
---   Found f ..         == the answer of the body, and what the buffers then hold, where f is the number of the first test that holds, 0 if none does
---   Answered f ..      == the same of the answer with its header
+--   refusedWith r == a refusal, with a header of zeros
+--   Taken l k h   == the header h of the stream l passed its tests, and k is its kernel
+--   Masked ..     == what is known of a call once the mask is drawn
+--   Found f ..    == the answer of the body, and what the buffers then hold, where f is the number of the first test that holds, 0 if none does
+--   Answered f .. == the same of the answer with its header
 --
 -- Assumes nothing: these are definitions.
 use mathlib.Core.Path.{_≡_}
 use mathlib.Core.Bool.{false}
 use mathlib.Core.List.{List}
-use Prim.Native.Nat.{ℕ, _*_}
+use Prim.Native.Nat.{ℕ}
 use lib.IntN.{ℤ, pos}
-use lib.ListN.{length, getD}
+use lib.ListN.{length}
 use Rattle.kernel.specs.declared.Kernel.{Kernel}
 use Rattle.kernel.specs.Kernels.{theKernel}
-use Rattle.line.specs.Cells.{listed}
 use Rattle.refusal.specs.Numbers.{first}
 use Rattle.refusal.specs.declared.Refusal.{Refusal}
 use Rattle.header.specs.Header.{badHeader, badVersion}
-use Rattle.header.specs.Fields.{numbers, shotOf}
-use Rattle.shot.specs.Shots.{shotMask, settingTests}
+use Rattle.header.specs.Fields.{shotOf}
+use Rattle.shot.specs.Shots.{shotMask}
 use Rattle.codestream.specs.Stream.{area}
-use Rattle.codestream.specs.Reading.{planeOf, badPlanes, numbersUnder, noShot, shotUnder, heldUnder}
+use Rattle.codestream.specs.Reading.{planeOf, badPlanes, headerTests, numbersUnder, noShot, shotUnder, heldUnder}
+use Rattle.header_reader.specs.declared.Header.{Header}
+use Rattle.header_reader.specs.Answers.{headerFor}
 use Rattle.decoder.specs.declared.Outcome.{Outcome}
 use Rattle.decoder.specs.declared.Outcome.the-variants.{Refused}
 use Rattle.decoder.specs.declared.Reading.{Reading}
-use Rattle.decoder.specs.Answers.{numbersOf, headerFor}
+use Rattle.decoder.specs.Answers.{numbersOf}
 
 abbrev pub refusedWith : Refusal → Reading
 refusedWith r = record { outcome = Refused r; header = headerFor noShot }
 
-abbrev pub rectangleArray : List ℕ → ℕ → List ℕ
-rectangleArray l k = listed 128 (λ i. getD (numbers (4 * k) l 14) i 0)
-
-pub record Set (l : List ℕ) (chosen : Kernel) (k J D W H : ℕ) : Type 0 where
-  pub header : badHeader l ≡ false
-  pub version : badVersion l ≡ false
-  pub kernel : k ≡ shotOf l .kernel
-  pub levels : J ≡ shotOf l .levels
-  pub depth : D ≡ shotOf l .depth
-  pub width : W ≡ shotOf l .width
-  pub height : H ≡ shotOf l .height
-  pub chosen-is : chosen ≡ theKernel k
-  pub setting : 0 ≡ first (settingTests k J D W H)
+pub record Taken (l : List ℕ) (k : Kernel) (h : Header) : Type 0 where
+  pub tests : first (headerTests l) ≡ 0
+  pub kernel : k ≡ theKernel (shotOf l .kernel)
+  pub header : h ≡ headerFor (shotOf l)
 
 pub record Masked (l : List ℕ) (plane : List ℤ) (mask : List ℕ) (T : ℕ) : Type 0 where
   pub header : badHeader l ≡ false

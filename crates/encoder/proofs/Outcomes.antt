@@ -16,7 +16,8 @@ use Rattle.refusal.specs.declared.Refusal.{Refusal}
 use Rattle.refusal.proofs.Named.{named}
 use Rattle.refusal.proofs.Ordered.{next, is, numbered, first-append}
 use Rattle.header.specs.Fields.{Shot}
-use Rattle.shot.specs.Inner.{settingNumber, Set}
+use Rattle.shot.specs.Inner.{Set}
+use Rattle.shot.specs.Settings.{settingNumber}
 use Rattle.shot.specs.Shots.{shotMask, marks, settingTests, rectangleTests}
 use Rattle.shot.specs.declared.Setting.{Setting}
 use Rattle.shot.specs.declared.Setting.the-variants.{Taken}

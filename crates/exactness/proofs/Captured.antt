@@ -8,7 +8,7 @@ use native.Mathlib.Nat.{mul-comm, mod-lt}
 use native.Mathlib.Omega.{arith}
 use lib.Arith.{digits-div, digits-mod}
 use lib.IntN.{ℤ, pos}
-use lib.ListN.{length, getD}
+use lib.ListN.{length, getD, take}
 use borrow.Author.Tests.{eqb-true, not-false}
 use Rattle.kernel.specs.Kernels.{theKernel}
 use Rattle.line.proofs.Lists.{listed-cell}
@@ -24,10 +24,10 @@ use Rattle.refusal.proofs.Passed.{Sides, sides, samples}
 use Rattle.wavelet.specs.Wavelet.{samplesOf, coefficientsOf, coefficient, transformTests}
 use Rattle.samples.specs.Samples.{inRange}
 use Rattle.header.specs.Fields.{Shot}
+use Rattle.header.specs.Arrival.{cutTo, arrivedOf}
 use Rattle.codestream.specs.Stream.{area, regionMark, totalLength, stream}
 use Rattle.codestream.specs.Writing.{shotFor, writeTests}
 use Rattle.codestream.specs.Reading as reading
-use Rattle.codestream.specs.Cutting.{cutTo}
 use Rattle.codestream.proofs.Accepted.{Writable, write-passed}
 use Rattle.codestream.proofs.Parts.{Parts, stream-parts, stream-length}
 use Rattle.codestream.proofs.Bodies.{body-whole}
@@ -35,7 +35,7 @@ use Rattle.codestream.proofs.Cuts.{Cuttable}
 use Rattle.codestream.proofs.RoundTrip.{answer-read, tests-read, plane-read}
 use Rattle.exactness.specs.Shown.{shownAt, inRegionAt, planeFor}
 use Rattle.exactness.proofs.Regions.{undoneOf, row-in, place-in, undone-agrees}
-use Rattle.exactness.proofs.Cuts.{every-cut}
+use Rattle.exactness.proofs.Cuts.{every-cut, arrived-is}
 use Rattle.exactness.proofs.Written.{stream-bytes}
 
 -- a sample in range is shown as it is
@@ -115,3 +115,8 @@ module _ (k J D W H : ℕ) (rs samples : List ℕ) (p m n : ℕ) (ok : accepted 
   captured-cut c low high i h t =
       let e = every-cut x (area s) (area s) c (stream-bytes s plane) (cuttable c low high) in
       e .shown i (subst (λ (u : Shot). i < area u) (sym (parts .shot)) h) (subst (λ (u : Shot). inRegionAt u i ≡ true) (sym (parts .shot)) t) ∙ captured i h
+
+  -- what arrived of it
+  pub captured-arrived : (c : ℕ) → regionMark s plane ≤ c → c ≤ totalLength s plane → (i : ℕ) → i < W * H → inRegionAt s i ≡ true → shownAt (arrivedOf (take c x)) i ≡ getD samples i 0
+  captured-arrived c low high i h t =
+      ap (λ (l : List ℕ). shownAt l i) (arrived-is x (area s) (area s) c (stream-bytes s plane) (cuttable c low high)) ∙ captured-cut c low high i h t

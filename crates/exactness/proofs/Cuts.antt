@@ -17,14 +17,16 @@ use Rattle.refusal.specs.Numbers.{first, accepted}
 use Rattle.refusal.specs.Tests.{badLength}
 use Rattle.refusal.proofs.Ordered.{passes-test, numbered, accepted-both, accepted-join}
 use Rattle.samples.specs.Samples.{inRange}
-use Rattle.header.specs.Header.{frontLength, bodyTests, bodyOf}
+use Rattle.header.specs.Header.{frontLength, badHeader, bodyTests, bodyOf}
 use Rattle.header.specs.Fields.{Shot, shotOf}
+use Rattle.header.specs.Arrival.{cutTo, arrivedOf}
 use Rattle.shot.specs.Shots.{shotMask, marks, settingTests, rectangleTests}
 use Rattle.codestream.specs.Stream.{area, markedPasses}
 use Rattle.codestream.specs.Reading.{answerOf, planeOf, badPlanes, readTests}
-use Rattle.codestream.specs.Cutting.{cutTo, cutTests, Bytes}
+use Rattle.codestream.specs.Cutting.{cutTests, Bytes}
 use Rattle.codestream.proofs.Accepted.{taken, setting-passed}
 use Rattle.codestream.proofs.Lengths.{shot-mask-length}
+use Rattle.codestream.proofs.Arrivals.{arrived-cut}
 use Rattle.codestream.proofs.Cuts.{Headed, headed, Cuttable, cut-taken, cut-passed}
 use Rattle.codestream.proofs.RoundTrip.{lastTests, testsBehind, answerFrom}
 use Rattle.exactness.specs.Shown.{undoneAt, inRegionAt}
@@ -116,6 +118,10 @@ module _ (l : List ℕ) (n m c : ℕ) (bytes : Bytes l) (p : Cuttable l n m c) w
   undone-cut i h t =
       let set = setting-passed (s .kernel) (s .levels) (s .depth) (s .width) (s .height) (setting-tests s (bodyOf l) (answerOf l .end) n m (parts .1)) in
       ap (λ (t : Shot). undoneOf t (planeOf (cutTo l c)) i) (head .shot) ∙ region-same s set (planeOf (cutTo l c)) (planeOf l) marked-cut i h t
+
+  -- what arrived of it
+  pub arrived-is : arrivedOf (take c l) ≡ cutTo l c
+  arrived-is = arrived-cut l (passes-test (badHeader l) 11 _ (parts .0) .0) c front-low (p .high) bytes
 
   -- the theorem
   pub every-cut : Exact l n m c

@@ -29,14 +29,20 @@
 --     spared   with kernel S, for every region of any size and every marked coefficient that is accepted there is another accepted value which, put
 --              in that one's place alone, alters a region sample, taken before it is brought into range
 --
--- Assumes nothing: these are definitions. `proofs/Demands.antt` proves Demand2 and Demand3.
+--   Arrived == what a call that broke off has left is a cut, once `arrived` has set its length field:
+--     cut      of the first c bytes of a stream of bytes, c from the end of its header to its length, `arrived` leaves the stream cut to c bytes
+--     told     it accepts them, and tells the length of the stream
+--     exact    so what it leaves from the region mark on is accepted and shows each region sample as the whole stream does
+--     captured and as captured, where the stream was written from the plane of an accepted picture
+--
+-- Assumes nothing: these are definitions. `proofs/Demands.antt` proves Demand2, Demand3 and Arrived.
 use mathlib.Core.Path.{_≡_}
 use mathlib.Core.Logic.{_≢_}
-use mathlib.Core.Bool.{Bool, true}
+use mathlib.Core.Bool.{Bool, true, false}
 use mathlib.Core.List.{List}
 use Prim.Native.Nat.{ℕ, _*_, _-_, _^_, _<_, _≤_}
 use lib.IntN.{ℤ, pos, _+ℤ_}
-use lib.ListN.{length, getD}
+use lib.ListN.{length, getD, take}
 use Rattle.whole.specs.Within.{Within}
 use Rattle.kernel.specs.declared.Kernel.{Kernel}
 use Rattle.kernel.specs.declared.Kernel.the-variants.{S}
@@ -45,12 +51,14 @@ use Rattle.plane.specs.Plane.{transformed, undone, maskOf, levelMask, levelPict
 use Rattle.plane.specs.Counts.{places, differs}
 use Rattle.refusal.specs.Numbers.{first, accepted}
 use Rattle.wavelet.specs.Wavelet.{transformTests}
+use Rattle.header.specs.Header.{frontLength, badHeader}
 use Rattle.header.specs.Fields.{shotOf}
+use Rattle.header.specs.Arrival.{cutTo, arrivedOf, arrivalNumbers}
 use Rattle.shot.specs.Shots.{shotMask}
 use Rattle.codestream.specs.Stream.{area, regionMark, totalLength, stream}
 use Rattle.codestream.specs.Writing.{shotFor, writeTests}
 use Rattle.codestream.specs.Reading.{answerOf, planeOf, readTests, readNumbers, ReadBack}
-use Rattle.codestream.specs.Cutting.{cutTo, cutTests, Bytes}
+use Rattle.codestream.specs.Cutting.{cutTests, Bytes}
 use Rattle.exactness.specs.Shown.{undoneAt, shownAt, inRegionAt, planeFor}
 
 pub record Demand2 : Type 0 where
@@ -85,3 +93,12 @@ pub record Demand3 : Type 0 where
       → (c : ℕ) → regionMark s plane ≤ c → c ≤ totalLength s plane → (i : ℕ) → i < W * H → inRegionAt s i ≡ true → shownAt (cutTo (stream s plane) c) i ≡ getD samples i 0
   pub spared : (J W H : ℕ) (B : Picture Bool) (P : Picture ℤ) (v u : ℕ) → v < H → u < W → maskOf S J W H B v u ≡ true → Within (2 ^ 22 - 1) (P v u)
       → (d : ℤ) × (P v u +ℤ d ≢ P v u) × Within (2 ^ 22 - 1) (P v u +ℤ d) × Altered W H B (undone S J W H P) (undone S J W H (changed P v u d))
+
+pub record Arrived : Type 0 where
+  pub cut : (l : List ℕ) → Bytes l → badHeader l ≡ false → (c : ℕ) → frontLength l ≤ c → c ≤ length l → arrivedOf (take c l) ≡ cutTo l c
+  pub told : (l : List ℕ) → badHeader l ≡ false → (c : ℕ) → frontLength l ≤ c → c ≤ length l → arrivalNumbers (take c l) ≡ record { refusal = 0; sent = length l }
+  pub exact : (l : List ℕ) (n m c : ℕ) → Bytes l → accepted (readTests l n m) ≡ true → answerOf l .whole ≡ true → answerOf l .regionMark ≤ c → c ≤ length l
+      → (arrivedOf (take c l) ≡ cutTo l c) × Exact l n m c
+  pub captured : (k J D W H : ℕ) (rs samples : List ℕ) (p m n : ℕ) → let plane = planeFor k J W H samples in let s = shotFor k J D W H rs plane in
+      accepted (transformTests k J D W H samples p) ≡ true → accepted (writeTests s plane m n) ≡ true
+      → (c : ℕ) → regionMark s plane ≤ c → c ≤ totalLength s plane → (i : ℕ) → i < W * H → inRegionAt s i ≡ true → shownAt (arrivedOf (take c (stream s plane))) i ≡ getD samples i 0

@@ -3,3 +3,4 @@ pub mod Numbers
 pub mod Parts
 pub mod Fields
 pub mod Writing
+pub mod Arrivals

@@ -4,8 +4,8 @@ use mathlib.Core.List.{List, [], _∷_, _++_, append-nil}
 use Prim.Native.Nat.{ℕ, _+_, _*_, _-_, _/_, _%_, _<_, _≤_}
 use native.Mathlib.Omega.{arith}
 use native.Mathlib.Numerals.{add-one}
-use lib.ListN.{length, getD, set, take, length-set, length-append, length-take, List·getD-append}
-use lib.Seq.{getD-set-same, getD-set-other, getD-append-add, take-suc, take-all}
+use lib.ListN.{length, getD, set, take, drop, length-set, length-append, length-take, length-drop, List·getD-append}
+use lib.Seq.{ext-getD, getD-set-same, getD-set-other, getD-append-add, getD-drop, take-suc, take-all}
 use Rattle.line.proofs.Cells.{by-lt}
 use Rattle.header.specs.Fields.{bytesOf, Field, field, laid, Shot, fixedFields, rectangleFields, header}
 use Rattle.header.specs.Writing.{Laid, Headed}
@@ -50,6 +50,15 @@ laid-two at x f g = rw (bytes-two x) (laid-both at (at + 1) (omega (arith, bytes
 
 pub laid-four : {k l m : List ℕ} (at x : ℕ) → Laid at (bytesOf 2 (x / 65536)) k l → Laid (at + 2) (bytesOf 2 (x % 65536)) l m → Laid at (bytesOf 4 x) k m
 laid-four at x f g = rw (bytes-four x) (laid-both at (at + 2) (omega (arith, bytes-length 2 (x / 65536))) f g)
+
+-- the bytes p in front of what l held
+module _ (p l : List ℕ) {m : List ℕ} (n : ℕ) (size : length p ≡ n) (room : n ≤ length l) (len : length m ≡ length l) where
+  pub in-front : ((i : ℕ) → i < n → getD m i 0 ≡ getD p i 0) → ((i : ℕ) → n ≤ i → getD m i 0 ≡ getD l i 0) → m ≡ p ++ drop n l
+  in-front f g = ext-getD 0 m (p ++ drop n l) (len ∙ omega (arith, length-append p (drop n l), length-drop n l))
+      (λ i h. by-lt i n
+      (λ lt. f i lt ∙ sym (List·getD-append p (drop n l) 0 i (omega arith)))
+      (λ ge. let j = i - n in let d : length p + j ≡ i = omega arith in let e : n + j ≡ i = omega arith in
+      g i ge ∙ ap (λ (k : ℕ). getD l k 0) (sym e) ∙ sym (getD-drop n l j 0) ∙ sym (getD-append-add p (drop n l) j 0) ∙ ap (λ (k : ℕ). getD (p ++ drop n l) k 0) d))
 
 -- a field, and what follows it
 laid-field : {b k l m : List ℕ} (n x at p : ℕ) → p ≡ at + n → Laid at (bytesOf n x) k l → Laid p b l m → Laid at (bytesOf n x ++ b) k m

@@ -14,7 +14,8 @@
 --
 --   number n l at == the number in the n bytes of l from `at` on
 --   frontLength l == 14 + 8k, the length before the body
---   badHeader l   == 12: fewer than 14 bytes, or than 14 + 8k, or a length field other than the total less 4
+--   badFront l    == fewer than 14 bytes, or than 14 + 8k
+--   badHeader l   == 12: that, or a length field other than the total less 4
 --   badVersion l  == 13: version not 1
 --   bodyTests l   == the refusals of the body's part: 12, 13
 --   bodyOf l      == the bytes that carry the body, none under a refusal
@@ -35,8 +36,11 @@ number (suc n) l at = number n l at * 256 + getD l (at + n) 0
 abbrev pub frontLength : List ℕ → ℕ
 frontLength l = 14 + 8 * number 1 l 12
 
+abbrev pub badFront : List ℕ → Bool
+badFront l = ltb (length l) 14 || ltb (length l) (frontLength l)
+
 abbrev pub badHeader : List ℕ → Bool
-badHeader l = ltb (length l) 14 || ltb (length l) (frontLength l) || not (eqb (number 4 l 0 + 4) (length l))
+badHeader l = badFront l || not (eqb (number 4 l 0 + 4) (length l))
 
 abbrev pub badVersion : List ℕ → Bool
 badVersion l = not (eqb (number 1 l 4) 1)

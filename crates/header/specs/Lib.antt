@@ -2,3 +2,5 @@
 pub mod Header
 pub mod Fields
 pub mod Writing
+pub mod Arrival
+pub mod Answers

@@ -2,9 +2,12 @@
 ghost use mathlib.Core.Path.{_≡_};
 ghost use Prim.Native.Nat.{ℕ, _+_, _*_, _<_, _≤_};
 ghost use lib.ListN.{length, getD};
-ghost use Rattle.header.specs.Header.{number, frontLength, badHeader, badVersion, bodyOf};
+ghost use Rattle.header.specs.Header.{number, frontLength, badFront, badHeader, badVersion, bodyOf};
 ghost use Rattle.header.specs.Fields.{bytesOf, laid, rectangleFields};
 ghost use Rattle.header.specs.Writing.{Laid, Fit, Headed};
+ghost use Rattle.header.specs.Arrival.{badArrival, arrivedOf, arrivalNumbers};
+ghost use Rattle.header.specs.Answers.{numbersOf};
+use refusal::Refusal;
 
 // The numbers of one, two and four bytes at a place.
 pub fn one_byte(stream: &[u8], at: usize) -> usize
@@ -39,17 +42,34 @@ pub fn front_length(stream: &[u8]) -> usize
     14 + 8 * one_byte(stream, 12)
 }
 
-// Refusal 12.
-pub fn bad_header(stream: &[u8]) -> bool
-    ensures { λ r. ⌜ r ≡ badHeader (now (stream .entry)) ⌝ }
+// The header is not whole.
+fn bad_front(stream: &[u8]) -> bool
+    ensures { λ r. ⌜ r ≡ badFront (now (stream .entry)) ⌝ }
 {
     if stream.len() < 14 {
         return true;
     }
-    if stream.len() < front_length(stream) {
+    stream.len() < front_length(stream)
+}
+
+// Refusal 12.
+pub fn bad_header(stream: &[u8]) -> bool
+    ensures { λ r. ⌜ r ≡ badHeader (now (stream .entry)) ⌝ }
+{
+    if bad_front(stream) {
         return true;
     }
     four_bytes(stream, 0) + 4 != stream.len()
+}
+
+// Refusal 12 of what arrived.
+fn bad_arrival(stream: &[u8]) -> bool
+    ensures { λ r. ⌜ r ≡ badArrival (now (stream .entry)) ⌝ }
+{
+    if bad_front(stream) {
+        return true;
+    }
+    four_bytes(stream, 0) + 4 < stream.len()
 }
 
 // Refusal 13.
@@ -135,4 +155,27 @@ pub fn write_header(
     put_byte(out, 12, numbers.len() / 4);
     put_byte(out, 13, planes);
     put_rectangles(out, numbers);
+}
+
+// What `arrived` answers: the length that was sent, or the refusal.
+pub enum Arrival {
+    Sent(usize),
+    Refused(Refusal),
+}
+
+// Makes of what a call that broke off has left the stream cut to what arrived: a length field that is larger than what is there is set.
+// Refusal: 12. Every other stream, and all other bytes, hold what they held.
+pub fn arrived(stream: &mut [u8]) -> Arrival
+    ensures { λ r. ⌜ numbersOf r ≡ arrivalNumbers (now (stream .entry)) ⌝ }
+    ensures { λ r. ⌜ now (stream .exit) ≡ arrivedOf (now (stream .entry)) ⌝ }
+{
+    if bad_arrival(stream) {
+        return Arrival::Refused(Refusal::Header);
+    }
+    let sent = four_bytes(stream, 0) + 4;
+    let there = stream.len();
+    if there < sent {
+        put_four(stream, 0, there - 4);
+    }
+    Arrival::Sent(sent)
 }

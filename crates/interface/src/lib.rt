@@ -1,6 +1,6 @@
 // The C interface: the entries as exported functions over numbers and slices. `host/include/dhiirqobaal.h` documents them.
 ghost use mathlib.Core.Path.{_≡_};
-ghost use Prim.Native.Nat.{_+_, _^_, _<_};
+ghost use Prim.Native.Nat.{_+_, _^_, _<_, _≤_};
 ghost use lib.IntN.{pos};
 ghost use lib.ListN.{length, getD};
 ghost use Rattle.line.specs.Cells.{listed};
@@ -8,17 +8,24 @@ ghost use Rattle.line.specs.Mask.{marked};
 ghost use Rattle.refusal.specs.Numbers.{first, accepted};
 ghost use Rattle.refusal.specs.Results.{Result};
 ghost use Rattle.header.specs.Header.{bodyTests};
+ghost use Rattle.header.specs.Fields.{Shot};
+ghost use Rattle.header.specs.Arrival.{arrivedOf, arrivalNumbers};
+ghost use Rattle.header.specs.Answers as arriving;
 ghost use Rattle.region.specs.Region.{regionByte, regionTests};
 ghost use Rattle.picture_mask.specs.Masks.{maskByte, maskTests};
 ghost use Rattle.samples.specs.Samples.{inRange, truncated, showTests, truncateTests};
 ghost use Rattle.wavelet.specs.Wavelet.{coefficient, undoneNumber, transformTests, undoTests};
+ghost use Rattle.shot.specs.Settings.{settingNumber};
 ghost use Rattle.codestream.specs.Writing.{shotFor, writeNumbers, maskAfter, streamAfter};
 ghost use Rattle.codestream.specs.Reading as reading;
 ghost use Rattle.codestream.specs.Cutting as cutting;
 ghost use Rattle.encoder.specs.Answers as writing;
+ghost use Rattle.header_reader.specs.Answers.{headerFor};
 ghost use Rattle.decoder.specs.Answers as found;
 ghost use Rattle.cutter.specs.Answers as cut;
-ghost use Rattle.interface.specs.Results.{GivenAt, Given, writeResults, bodyNumbers, readResults, cutResults, bodyResults};
+ghost use Rattle.interface.specs.Results.{GivenAt, Given, writeResults, bodyNumbers, shotResults, readResults, cutResults, bodyResults, arrivalResults, libraryVersion};
+use header_reader::Header;
+use shot::Setting;
 
 // Result numbers into the caller's array from `at` on, as far as it reaches.
 fn give(values: &[u64], at: usize, results: &mut [u64])
@@ -207,6 +214,48 @@ fn wide(numbers: [u32; 128]) -> [u64; 128]
     values
 }
 
+// The numbers of a header into the caller's array from `at` on.
+fn give_header(header: Header, at: usize, results: &mut [u64])
+    requires { ⌜ at ≤ 4 ⌝ }
+    ensures { λ _. ⌜ ((s : Shot) → header ≡ headerFor s → GivenAt at (shotResults s) (now (results .entry)) (now (results .exit))) ⌝ }
+{
+    let fields = [
+        header.kernel as u64,
+        header.levels as u64,
+        header.depth as u64,
+        header.width as u64,
+        header.height as u64,
+        header.planes as u64,
+        header.count as u64,
+    ];
+    give(&fields, at, results);
+    let numbers = header.rectangles;
+    let rectangles = wide(numbers);
+    give(&rectangles, at + 7, results);
+}
+
+// The number of what `read_header` answers.
+fn header_refusal(setting: Setting) -> u64
+    ensures { λ r. ⌜ r ≡ settingNumber setting ⌝ }
+{
+    match setting {
+        Setting::Taken(_) => 0,
+        Setting::Refused(refusal) => refusal::refusal_number(refusal),
+    }
+}
+
+#[no_mangle]
+pub extern "C" fn dhiirqobaal_header(stream: &[u8], results: &mut [u64]) -> u64
+    ensures { λ r. ⌜ r ≡ first (reading.headerTests (now (stream .entry))) ⌝ }
+    ensures { λ r. ⌜ Given (shotResults (reading.shotUnder (first (reading.headerTests (now (stream .entry)))) (now (stream .entry)))) (now (results .entry)) (now (results .exit)) ⌝ }
+{
+    let headed = header_reader::read_header(stream);
+    let setting = headed.setting;
+    let header = headed.header;
+    give_header(header, 0, results);
+    header_refusal(setting)
+}
+
 #[no_mangle]
 pub extern "C" fn dhiirqobaal_read(
     stream: &[u8],
@@ -224,19 +273,7 @@ pub extern "C" fn dhiirqobaal_read(
     let header = answer.header;
     let body = read_values(outcome);
     give(&body, 0, results);
-    let fields = [
-        header.kernel as u64,
-        header.levels as u64,
-        header.depth as u64,
-        header.width as u64,
-        header.height as u64,
-        header.planes as u64,
-        header.count as u64,
-    ];
-    give(&fields, 4, results);
-    let numbers = header.rectangles;
-    let rectangles = wide(numbers);
-    give(&rectangles, 11, results);
+    give_header(header, 4, results);
     read_refusal(outcome)
 }
 
@@ -316,4 +353,42 @@ fn body_refusal(stream: &[u8]) -> u64
         return 13;
     }
     0
+}
+
+// The length that `arrived` answers.
+fn arrived_length(arrival: header::Arrival) -> u64
+    ensures { λ r. ⌜ r ≡ arriving.numbersOf arrival .sent ⌝ }
+{
+    match arrival {
+        header::Arrival::Sent(n) => n as u64,
+        header::Arrival::Refused(_) => 0,
+    }
+}
+
+fn arrived_refusal(arrival: header::Arrival) -> u64
+    ensures { λ r. ⌜ r ≡ arriving.numbersOf arrival .refusal ⌝ }
+{
+    match arrival {
+        header::Arrival::Sent(_) => 0,
+        header::Arrival::Refused(refusal) => refusal::refusal_number(refusal),
+    }
+}
+
+#[no_mangle]
+pub extern "C" fn dhiirqobaal_arrived(stream: &mut [u8], results: &mut [u64]) -> u64
+    ensures { λ r. ⌜ r ≡ arrivalNumbers (now (stream .entry)) .refusal ⌝ }
+    ensures { λ r. ⌜ Given (arrivalResults (arrivalNumbers (now (stream .entry)))) (now (results .entry)) (now (results .exit)) ⌝ }
+    ensures { λ r. ⌜ now (stream .exit) ≡ arrivedOf (now (stream .entry)) ⌝ }
+{
+    let arrival = header::arrived(stream);
+    let values = [arrived_length(arrival)];
+    give(&values, 0, results);
+    arrived_refusal(arrival)
+}
+
+#[no_mangle]
+pub extern "C" fn dhiirqobaal_version() -> u64
+    ensures { λ r. ⌜ r ≡ libraryVersion ⌝ }
+{
+    10000
 }

@@ -1,14 +1,15 @@
 -- The laws by which a proof walks an ordered list of tests: `search ordered depth 20 fits 3000` answers each return of a chain of tests that
 -- returns the refusal of the first that holds. Assumes nothing.
 use mathlib.Core.Path.{_≡_, refl, sym, _∙_}
-use mathlib.Core.Bool.{Bool, true, false, not, false≢true}
+use mathlib.Core.Bool.{Bool, true, false, not, _&&_, false≢true}
 use mathlib.Core.List.{List, [], _∷_, _++_}
-use Prim.Native.Nat.{ℕ, zero, suc, _<_}
+use Prim.Native.Nat.{ℕ, zero, suc, _<_, _≤_}
 use native.Mathlib.Omega.{arith}
 use borrow.Author.Needs.{needs}
-use borrow.Author.Tests.{lt-ltb, le-ltb, le-leb, lt-leb, eq-eqb, ne-eqb}
-use lib.Dec.{eqb, eqb·suc-zero}
+use borrow.Author.Tests.{lt-ltb, le-ltb, le-leb, lt-leb, leb-true, eq-eqb, ne-eqb}
+use lib.Dec.{leb, eqb, eqb·suc-zero}
 use Rattle.line.specs.Cells.{choose}
+use Rattle.line.proofs.Marks.{and-parts}
 use Rattle.refusal.specs.Numbers.{Test, test, first, accepted}
 use Rattle.refusal.specs.Results.{Result}
 
@@ -64,6 +65,17 @@ unfoldable pub numbered : List Test → Bool
 numbered [] = true
 numbered (test b zero ∷ ts) = false
 numbered (test b (suc n) ∷ ts) = numbered ts
+
+-- no number of a list is above n; of a list that is written out this computes
+unfoldable pub upto : ℕ → List Test → Bool
+upto n [] = true
+upto n (test b m ∷ ts) = leb m n && upto n ts
+
+pub first-upto : (n : ℕ) (ts : List Test) → upto n ts ≡ true → first ts ≤ n
+unfolding first upto
+first-upto n [] e = omega arith
+first-upto n (test true m ∷ ts) e = leb-true m n (and-parts (leb m n) _ e .0)
+first-upto n (test false m ∷ ts) e = first-upto n ts (and-parts (leb m n) _ e .1)
 
 module _ (us : List Test) where
   pub first-append : (ts : List Test) → numbered ts ≡ true → first (ts ++ us) ≡ choose (accepted ts) (first us) (first ts)

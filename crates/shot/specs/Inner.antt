@@ -1,6 +1,5 @@
 -- Settings and drawings that were tested: what only inner contracts and proofs cite.
 --
---   settingNumber r    == 0, or the number of the refusal
 --   Set k J D W H r    == r is the kernel of number k, or the first refusal of the setting
 --   Drawable J W H l n == rectangles and a buffer of n bytes that have passed their tests
 --
@@ -11,15 +10,12 @@ use mathlib.Core.List.{List}
 use Prim.Native.Nat.{ℕ, _*_, _<_}
 use Rattle.kernel.specs.declared.Kernel.{Kernel}
 use Rattle.kernel.specs.Kernels.{theKernel}
-use Rattle.refusal.specs.Numbers.{refusalNumber, first}
+use Rattle.refusal.specs.Numbers.{first}
 use Rattle.refusal.specs.Tests.{badSize, badRectangles}
 use Rattle.shot.specs.declared.Setting.{Setting}
-use Rattle.shot.specs.declared.Setting.the-variants.{Taken, Refused}
+use Rattle.shot.specs.declared.Setting.the-variants.{Taken}
 use Rattle.shot.specs.Shots.{settingTests}
-
-abbrev pub settingNumber : Setting → ℕ
-settingNumber (Taken k) = 0
-settingNumber (Refused r) = refusalNumber r
+use Rattle.shot.specs.Settings.{settingNumber}
 
 pub record Set (k J D W H : ℕ) (r : Setting) : Type 0 where
   pub number : settingNumber r ≡ first (settingTests k J D W H)

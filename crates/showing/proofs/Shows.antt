@@ -27,8 +27,8 @@ use Rattle.shot.specs.Shots.{settingTests, rectangleTests}
 use Rattle.codestream.specs.Stream.{area}
 use Rattle.codestream.specs.Reading.{planeOf, badPlanes, readTests, noShot, shotRead, planeAfter}
 use Rattle.codestream.proofs.Planes.{plane-accepted}
-use Rattle.decoder.specs.Answers.{headerFor}
-use Rattle.decoder.specs.declared.Header.{Header}
+use Rattle.header_reader.specs.Answers.{headerFor}
+use Rattle.header_reader.specs.declared.Header.{Header}
 use Rattle.exactness.specs.Shown.{undoneAt, shownAt}
 use Rattle.showing.specs.Inner.{samplesAfter, Alike}
 use Rattle.showing.specs.Showing.{roomFor}

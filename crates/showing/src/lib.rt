@@ -2,7 +2,8 @@
 ghost use mathlib.Core.Path.{_≡_};
 ghost use lib.ListN.{length};
 ghost use Rattle.codestream.specs.Reading.{readNumbers, shotRead};
-ghost use Rattle.decoder.specs.Answers.{numbersOf, headerFor};
+ghost use Rattle.header_reader.specs.Answers.{headerFor};
+ghost use Rattle.decoder.specs.Answers.{numbersOf};
 ghost use Rattle.showing.specs.Inner.{samplesAfter, Alike};
 ghost use Rattle.showing.specs.Showing.{roomFor, shownAfter};
 use decoder::Reading;

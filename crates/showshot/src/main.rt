@@ -2,8 +2,8 @@
 ghost use Prim.Native.Nat.{_+_, _*_, _≤_};
 ghost use lib.ListN.{length};
 use decoder::Body;
-use decoder::Header;
 use decoder::Outcome;
+use header_reader::Header;
 use libc::STDIN_FILENO;
 use libc::STDOUT_FILENO;
 

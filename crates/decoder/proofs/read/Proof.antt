@@ -1,75 +1,38 @@
 -- `decoder::read` reads a stream into the lent plane and mask, or refuses. Assumes nothing.
-use mathlib.Core.Path.{_≡_, refl, sym, ap, _∙_}
-use mathlib.Core.Bool.{false}
+use mathlib.Core.Path.{_≡_, sym, ap, _∙_}
 use mathlib.Core.List.{List}
-use Prim.Native.Nat.{ℕ, _≤_}
-use native.Mathlib.Omega.{arith}
-use lib.ListN.{length}
+use Prim.Native.Nat.{ℕ}
 use borrow.Author.Needs.{needs}
-use Rattle.refusal.specs.declared.Refusal.the-variants.{Header, Version}
-use Rattle.refusal.proofs.Ordered.{told}
-use Rattle.header.specs.Header.{badHeader, badVersion}
-use Rattle.header.proofs.Parts.{good-long}
-use Rattle.shot.specs.Inner.{settingNumber}
-use Rattle.decoder.proofs.Tests.{settingFirst, setting-of, header-first, version-first}
-use Rattle.decoder.proofs.Answered.{refused-answer, setting-refused, set-answer, entry}
+use Rattle.refusal.specs.Numbers.{first}
+use Rattle.shot.specs.Settings.{settingNumber}
+use Rattle.codestream.specs.Reading.{headerTests, shotUnder}
+use Rattle.header_reader.specs.Answers.{headerFor}
+use Rattle.decoder.proofs.Answered.{header-refused, headed-answer, entry}
 use Rattle.decoder.proofs.read.Statement.{statement}
 use Rattle.decoder.proofs.read.Tie as tie
 
--- the stream, and the lengths of plane and mask
+-- the stream
 abbrev L : tie.Start → List ℕ
 L s = s .args .stream .now
 
-abbrev N : tie.Start → ℕ
-N s = length (s .args .plane .now)
-
-abbrev M : tie.Start → ℕ
-M s = length (s .args .mask .now)
-
-good : (c : tie.Else1) → badHeader (L (c .before .before .before .before)) ≡ false
-good c = search told
-
-long : (c : tie.Else1) → 14 ≤ length (L (c .before .before .before .before))
-long c = good-long (L (c .before .before .before .before)) (good c)
-
-version : (c : tie.Else2) → badVersion (L (c .before .before .before .before .before .before)) ≡ false
-version c = search told
-
--- the setting that was tested is that of the header
-setting : (c : tie.After-take-setting) → settingNumber (c .take-setting .result) ≡ settingFirst (L (c .before .before .before .before .before .before .before .before .before .before .before .before))
-setting c = c .take-setting .ensures .number ∙ setting-of _ _ _ _ _ (L (c .before .before .before .before .before .before .before .before .before .before .before .before)) (c .before .before .before .before .before .one-byte .ensures .0) (c .before .before .before .before .one-byte2 .ensures .0) (c .before .before .before .one-byte3 .ensures .0) (c .before .before .two-bytes .ensures .0) (c .before .two-bytes2 .ensures .0)
+-- a setting that is taken: no test of the header holds
+none : (c : tie.After-setting2) → first (headerTests (L (c .before .before .before .before .before .before))) ≡ 0
+none c = sym (c .before .before .before .read-header .ensures .0) ∙ ap settingNumber (c .setting2 .given .1)
 
 pub read-spec : {M : Type 1} → statement M
 read-spec =
     tie.close (tie.spec
     (λ c κs. search needs)
-    (λ c κs. search needs)
-    (λ c. entry (L (c .before .before .before .before .before)) (refused-answer Header (c .refused .ensures) refl (header-first (L (c .before .before .before .before .before)) (N (c .before .before .before .before .before)) (M (c .before .before .before .before .before)) (sym (c .before .before .bad-header .ensures) ∙ c .before .if1 .taken))))
-    (λ c κs. long c)
-    (λ c κs. search needs)
-    (λ c. entry (L (c .before .before .before .before .before .before .before)) (refused-answer Version (c .refused2 .ensures) refl (version-first (L (c .before .before .before .before .before .before .before)) (N (c .before .before .before .before .before .before .before)) (M (c .before .before .before .before .before .before .before)) (good (c .before .before .before)) (sym (c .before .before .bad-version .ensures) ∙ c .before .if2 .taken))))
-    (λ c κs. omega (arith, long (c .before .before)))
-    (λ c κs. omega (arith, long (c .before .before .before)))
-    (λ c κs. omega (arith, long (c .before .before .before .before)))
-    (λ c κs. omega (arith, long (c .before .before .before .before .before)))
-    (λ c κs. omega (arith, long (c .before .before .before .before .before .before)))
-    (λ c κs. search needs)
     (λ c. search needs)
     (λ c κs. search needs)
     (λ c. search needs)
-    (λ c κs. let d = c .before .before .before .before .before in
+    (λ c κs. let e = none (c .before .before .before) in
     record {
-      header = good (c .before .before .before .before .before .before .before .before .before .before .before .before .before);
-      version = version (c .before .before .before .before .before .before .before .before .before .before .before);
-      kernel = c .before .before .before .before .before .before .before .before .before .before .one-byte .ensures .0;
-      levels = c .before .before .before .before .before .before .before .before .before .one-byte2 .ensures .0;
-      depth = c .before .before .before .before .before .before .before .before .one-byte3 .ensures .0;
-      width = c .before .before .before .before .before .before .before .two-bytes .ensures .0;
-      height = c .before .before .before .before .before .before .two-bytes2 .ensures .0;
-      chosen-is = d .take-setting .ensures .kernel _ (c .before .before .before .setting2 .given .1);
-      setting = sym (ap settingNumber (c .before .before .before .setting2 .given .1)) ∙ d .take-setting .ensures .number;
+      tests = e;
+      kernel = c .before .before .before .before .before .before .read-header .ensures .1 .1 _ (c .before .before .before .setting2 .given .1);
+      header = c .before .before .before .before .before .before .read-header .ensures .1 .0 ∙ ap (λ (f : ℕ). headerFor (shotUnder f (L (c .before .before .before .before .before .before .before .before .before)))) e;
     })
-    (λ c. entry (L (c .before .before .before .before .before .before .before .before .before .before .before .before .before .before .before .before)) (setting-refused (good (c .before .before .before .before .before .before .before .before .before .before .before .before)) (version (c .before .before .before .before .before .before .before .before .before .before)) _ (setting (c .before .before .before .before)) (c .before .before .setting .given .1) (c .refused3 .ensures)))
+    (λ c. entry (L (c .before .before .before .before .before .before .before .before)) (header-refused _ (c .before .before .before .before .before .read-header .ensures .0) (c .before .before .setting .given .1) (c .refused .ensures)))
     (λ c. search needs)
     (λ c. search needs)
-    (λ c. entry (L (c .before .before .before .before .before .before .before .before .before .before .before .before .before .before .before .before .before .before .before .before .before)) (set-answer (good (c .before .before .before .before .before .before .before .before .before .before .before .before .before .before .before .before .before)) (version (c .before .before .before .before .before .before .before .before .before .before .before .before .before .before .before)) (sym (ap settingNumber (c .before .before .before .before .before .before .before .setting2 .given .1)) ∙ setting (c .before .before .before .before .before .before .before .before .before)) (c .before .before .before .read-set .ensures))))
+    (λ c. entry (L (c .before .before .before .before .before .before .before .before .before .before .before .before .before)) (headed-answer (none (c .before .before .before .before .before .before .before)) (c .before .before .before .read-headed .ensures))))

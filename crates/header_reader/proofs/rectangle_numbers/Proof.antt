@@ -1,9 +1,9 @@
--- `decoder::rectangle_numbers` reads the numbers of the rectangles into an array. Assumes nothing.
+-- `header_reader::rectangle_numbers` reads the numbers of the rectangles into an array. Assumes nothing.
 use Prim.Native.Nat.{_*_, _-_}
 use native.Mathlib.Omega.{arith}
-use Rattle.decoder.proofs.Arrays.{Taken, taken-none, taken-more, taken-all}
-use Rattle.decoder.proofs.rectangle_numbers.Statement.{statement}
-use Rattle.decoder.proofs.rectangle_numbers.Tie as tie
+use Rattle.header_reader.proofs.Arrays.{Taken, taken-none, taken-more, taken-all}
+use Rattle.header_reader.proofs.rectangle_numbers.Statement.{statement}
+use Rattle.header_reader.proofs.rectangle_numbers.Tie as tie
 
 abbrev Inv-loop : tie.InvT-loop
 Inv-loop stream count rectangles₀ i₀ i-end rectangles i = Taken stream count i rectangles

@@ -15,7 +15,7 @@ use Rattle.line.proofs.Lists.{listed-length, listed-cell, is-listed}
 use Rattle.refusal.proofs.Made.{Made, made-none, made-more}
 use Rattle.header.specs.Header.{number}
 use Rattle.header.specs.Fields.{numbers}
-use Rattle.decoder.specs.Inner.{rectangleArray}
+use Rattle.header_reader.specs.Inner.{rectangleArray}
 
 -- ---- the numbers of a stream
 pub numbers-length : (n : ℕ) (l : List ℕ) (at : ℕ) → length (numbers n l at) ≡ n

@@ -1,0 +1,4 @@
+-- The laws that the proofs of the reading of headers cite.
+pub mod Arrays
+pub mod Tests
+pub mod Answered

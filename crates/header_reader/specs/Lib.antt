@@ -1,0 +1,3 @@
+-- What the contracts on the reading of headers cite.
+pub mod Answers
+pub mod Inner
