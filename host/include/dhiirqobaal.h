@@ -18,8 +18,8 @@
  *   mask       one byte a coefficient: 1 for those that make the region's samples exact (the marked ones), else 0
  *   plane      the coefficients of a picture; an accepted one has magnitudes below 2^22 alone
  *   undone     what undoing a plane gives: whole numbers of either sign, not yet brought into range
- *   T          bit planes in a stream, 0 to 22. dhiirqobaal_write takes the binary digits of the largest magnitude; in
- *              a stream that is read T may be larger than needed, its highest planes then hold no 1
+ *   T          bit planes in a stream, 0 to 22. dhiirqobaal_write takes as many as the largest magnitude has binary
+ *              digits; in a stream that is read T may be larger than needed, its highest planes then hold no 1
  *   q          planes of the unmarked coefficients that were dropped or did not arrive
  *   region mark  the shortest length that dhiirqobaal_cut takes: from it on a cut stream has every bit of the marked
  *              coefficients
@@ -105,17 +105,18 @@
  *
  * THE LINK
  * The bytes must arrive unchanged, in their order, none left out. The format has no check sum: a changed bit is read as
- * it stands, and neither a refusal nor a result number tells of it. Where the link can change or lose bytes, send the
- * stream inside a protocol that notices and repeats: XMODEM with CRC or ZMODEM on a serial line, TLS or SSH on a
- * network, or frames of your own with a CRC-32 each, sent again until they arrive whole. Hand on only what passed its
- * check: a part that failed it, and all that came behind it, must not reach these functions. What came before it is a
- * call that broke off, as above.
+ * it stands, and mostly no refusal and no result number tells of it. Where the link can change or lose bytes, send the
+ * stream inside a protocol that notices and repeats: ZMODEM on a serial line (or XMODEM with CRC, which fills its last
+ * block: hand on the length field plus 4 bytes alone), TLS or SSH on a network, or frames of your own with a CRC-32
+ * each, sent again until they arrive whole. Hand on only what passed its check: a part that failed it, and all that
+ * came behind it, must not reach these functions. What came before it is a call that broke off, as above.
  *
  * CALLING
- * The library is x86-64 code that follows the System V ABI: the stack pointer is aligned to 16 bytes at the call, the
- * direction flag is clear. It needs two functions from outside, memcpy and memset of the C library (or of the
- * program), allocates nothing, makes no system call and has no variable of its own. It may be called from several
- * threads at once, as long as no buffer that one call writes is used by another at that time.
+ * The library is x86-64 code, position-independent, that follows the System V ABI: the stack pointer is aligned to 16
+ * bytes at the call, the direction flag is clear. It needs two functions from outside, memcpy and memset, of the C
+ * library or of the program; it allocates nothing, makes no system call and has no variable of its own. It may be
+ * called from several threads at once, each with buffers of its own: no buffer that one call writes is used by another
+ * meanwhile.
  *
  * Its working memory is on the stack. Each description says how many bytes below the caller's stack pointer a call
  * needs at most (DHIIRQOBAAL_STACK_READ and so on), with memcpy and memset of the GNU C library; host/stack measures
