@@ -4,6 +4,9 @@
 # The library is proved and built, unless INTERFACE_LIBRARY names one; the tool is built for release, unless TOOL_PROGRAM
 # names one. With DESTDIR every file goes below that folder, as packages are made; the pkg-config file names PREFIX alone.
 # Every file is complete before it takes its name, so that a failure leaves an old file as it was.
+# Where only root may write to PREFIX, build as yourself (by installing elsewhere), then install what is built:
+#     sudo INTERFACE_LIBRARY=target/staticlib/libinterface.a TOOL_PROGRAM=target/host/release/dhiirqobaal \
+#         sh host/install.sh PREFIX
 set -eu
 
 usage='usage: sh host/install.sh PREFIX
@@ -43,8 +46,9 @@ cd "$root"
 
 # Before the long work: is there a place to write to?
 for folder in bin include lib lib/pkgconfig share/man/man1; do
-    install -d -- "$place/$folder"
-    [ -w "$place/$folder" ] || fail 1 "no file can be written to $place/$folder"
+    if ! install -d -- "$place/$folder" || [ ! -w "$place/$folder" ]; then
+        fail 1 "no file can be written to $place/$folder"
+    fi
 done
 
 sh host/setup.sh

@@ -60,36 +60,37 @@ static void expect_refused(const uint8_t *stream, size_t length, uint64_t refusa
 }
 
 /* One byte of the worked stream of 8 by 4 samples changed. */
+static const struct {
+    size_t at;
+    uint8_t value;
+    uint64_t refusal;
+    const char *step;
+} changes[] = {
+    {3, 51, 12, "a length field above the length"},
+    {3, 49, 12, "a length field below the length"},
+    {12, 6, 12, "a header of six rectangles, 62 bytes, in 54"},
+    {4, 0, 13, "version 0"},
+    {4, 2, 13, "version 2"},
+    {5, 4, 1, "kernel 4"},
+    {6, 0, 2, "no level"},
+    {6, 6, 2, "six levels"},
+    {7, 0, 3, "depth 0"},
+    {7, 11, 3, "depth 11"},
+    {9, 0, 4, "width 0"},
+    {8, 16, 4, "width 4,104"},
+    {11, 0, 4, "height 0"},
+    {10, 16, 4, "height 4,100"},
+    {15, 8, 8, "a rectangle beyond the right edge"},
+    {17, 3, 8, "a rectangle beyond the lower edge"},
+    {19, 0, 8, "a rectangle without width"},
+    {21, 0, 8, "a rectangle without height"},
+    {12, 2, 8, "a second rectangle beyond the right edge"},
+    {13, 23, 14, "23 planes"},
+    {13, 22, 0, "22 planes"},
+    {53, 0xff, 0, "another body"},
+};
+
 static void check_changed_bytes(const struct shot *wide) {
-    static const struct {
-        size_t at;
-        uint8_t value;
-        uint64_t refusal;
-        const char *step;
-    } changes[] = {
-        {3, 51, 12, "a length field above the length"},
-        {3, 49, 12, "a length field below the length"},
-        {12, 6, 12, "a header of six rectangles, 62 bytes, in 54"},
-        {4, 0, 13, "version 0"},
-        {4, 2, 13, "version 2"},
-        {5, 4, 1, "kernel 4"},
-        {6, 0, 2, "no level"},
-        {6, 6, 2, "six levels"},
-        {7, 0, 3, "depth 0"},
-        {7, 11, 3, "depth 11"},
-        {9, 0, 4, "width 0"},
-        {8, 16, 4, "width 4,104"},
-        {11, 0, 4, "height 0"},
-        {10, 16, 4, "height 4,100"},
-        {15, 8, 8, "a rectangle beyond the right edge"},
-        {17, 3, 8, "a rectangle beyond the lower edge"},
-        {19, 0, 8, "a rectangle without width"},
-        {21, 0, 8, "a rectangle without height"},
-        {12, 2, 8, "a second rectangle beyond the right edge"},
-        {13, 23, 14, "23 planes"},
-        {13, 22, 0, "22 planes"},
-        {53, 0xff, 0, "another body"},
-    };
     uint8_t stream[MOST_BYTES];
     uint64_t results[1];
     size_t i;
