@@ -1,14 +1,14 @@
 /* The worked streams of docs/FORMAT.md through the C interface, from C: each function is called at least once, and what it gives is
    compared with that page. Prints a line for each step that is wrong, and 'N passed, M failed'.
-   Build: cc -std=c11 -I host/include host/c_example/worked.c target/staticlib/libinterface.a */
+   Build and run: host/c_example/run.sh. */
 #include <stdio.h>
 #include <string.h>
 
-#include "dhiirqobaal.h"
+#include "worked.h"
 
 static int passed, failed;
 
-static void expect(int right, const char *step) {
+void expect(int right, const char *step) {
     if (right) {
         passed++;
     } else {
@@ -187,6 +187,42 @@ static void check_sizes(void) {
     expect(dhiirqobaal_transform(0, 2, 8, 4097, 4, dark, 24, plane, 24) == 4, "4,097 by 4");
 }
 
+/* A plane of zeros has no bit plane: the stream is its header, and its body is empty. */
+static void check_empty_body(void) {
+    const uint8_t header[14] = {0x00, 0x00, 0x00, 0x0a, 0x01, 0x00, 0x01, 0x08, 0x00, 0x02, 0x00, 0x02, 0x00, 0x00};
+    const int32_t zeros[4] = {0, 0, 0, 0};
+    int32_t plane[4];
+    uint8_t mask[4], stream[14];
+    uint64_t results[4];
+    expect(dhiirqobaal_write(zeros, 4, numbers, 0, 0, 1, 8, 2, 2, mask, 4, stream, 14, results, 3) == 0, "zeros: write");
+    expect(results[0] == 14 && results[1] == 14 && results[2] == 0, "zeros: lengths and marks");
+    expect(memcmp(stream, header, 14) == 0, "zeros: stream");
+    expect(dhiirqobaal_body(stream, 14, results, 2) == 0 && results[0] == 14 && results[1] == 0, "zeros: body");
+    expect(dhiirqobaal_read(stream, 14, plane, 4, mask, 4, results, 4) == 0, "zeros: read");
+    expect(results[1] == 1 && results[2] == 14 && results[3] == 0, "zeros: numbers read");
+    expect(memcmp(plane, zeros, sizeof plane) == 0, "zeros: plane read");
+}
+
+/* Asking for the length: an empty stream buffer, whose pointer is not null; the mask is filled, the stream is not. */
+static void check_asking(void) {
+    const int32_t coefficients[4] = {6, 1, 4, 3};
+    uint8_t mask[4] = {9, 9, 9, 9}, stream[1] = {9};
+    uint64_t results[1] = {9};
+    expect(dhiirqobaal_write(coefficients, 4, numbers, 4, 0, 1, 8, 2, 2, mask, 4, stream, 0, results, 1) == 11, "asking");
+    expect(results[0] == 24 && stream[0] == 9, "asking: needed length");
+    expect(mask[0] == 1 && mask[1] == 1 && mask[2] == 1 && mask[3] == 1, "asking: mask");
+}
+
+/* The worked stream of 2 by 2 samples without its rectangle, whole. */
+static const uint8_t bare_written[16] = {0x00, 0x00, 0x00, 0x0c, 0x01, 0x00, 0x01, 0x08, 0x00, 0x02, 0x00, 0x02, 0x00, 0x03, 0x92, 0x49};
+
+const struct shot shots[SHOTS] = {
+    {"2 by 2", 0, 1, 2, 2, samples, numbers, 4, written, 24, 24, 3},
+    {"8 by 4", 3, 2, 8, 4, wide_samples, wide_numbers, 4, wide_written, 54, 36, 7},
+    {"3 by 3", 3, 2, 3, 3, odd_samples, odd_numbers, 4, odd_written, 29, 28, 5},
+    {"2 by 2 without a rectangle", 0, 1, 2, 2, samples, numbers, 0, bare_written, 16, 14, 3},
+};
+
 int main(void) {
     check_pictures();
     check_streams();
@@ -195,6 +231,13 @@ int main(void) {
     check_odd();
     check_borders();
     check_sizes();
+    check_empty_body();
+    check_asking();
+    check_arrived();
+    check_header();
+    check_version();
+    check_texts();
+    check_threads();
     printf("%d passed, %d failed\n", passed, failed);
     return failed != 0;
 }

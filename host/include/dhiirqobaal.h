@@ -1,35 +1,47 @@
 /*
  * dhiirqobaal.h: the C interface of Dhiirqobaal, a codec for exact-region panel shots.
  *
- * The library is target/staticlib/libinterface.a, for x86-64, made by `rt staticlib interface`. docs/FORMAT.md has the
- * format with its formulas and worked examples.
+ * The library is a static one, target/staticlib/libinterface.a in the repository, made by `rt staticlib interface`.
+ * `sh host/install.sh PREFIX` installs it as PREFIX/lib/libdhiirqobaal.a, with this header and a pkg-config file:
+ *   cc program.c $(pkg-config --cflags --libs dhiirqobaal)
+ * docs/FORMAT.md has the format with its formulas and worked examples.
  *
  * TERMS
  *   W, H       width and height of a picture, 1 to 4,096 each
  *   J          levels, 1 to 5, whatever W and H are
  *   D          depth in bits, 1 to 10; a sample is 0 to 2^D - 1
- *   kernel     0 S, 1 S+P (A), 2 TT, its lines reflected at their ends, 3 the 5/3 of ITU-T T.800
+ *   kernel     0 S, 1 S+P (A), 2 TT, its lines reflected at their ends, 3 the reversible 5/3 of ITU-T T.800 on a line.
+ *              Unlike T.800, rows are transformed before columns and no level shift is made, so that the planes of
+ *              kernel 3 are not those of a JPEG 2000 encoder
  *   rectangle  four numbers, x, y, width and height; (0, 0) is the upper left sample
  *   region     one byte a sample: 1 inside any rectangle, else 0
  *   mask       one byte a coefficient: 1 for those that make the region's samples exact (the marked ones), else 0
  *   plane      the coefficients of a picture; an accepted one has magnitudes below 2^22 alone
  *   undone     what undoing a plane gives: whole numbers of either sign, not yet brought into range
- *   T          bit planes in a stream, 0 to 22: the binary digits of the largest magnitude
+ *   T          bit planes in a stream, 0 to 22. dhiirqobaal_write takes as many as the largest magnitude has binary
+ *              digits; in a stream that is read T may be larger than needed, its highest planes then hold no 1
  *   q          planes of the unmarked coefficients that were dropped or did not arrive
- *   region mark  the least length to which a stream can be cut with every region sample kept exact
+ *   region mark  the shortest length that dhiirqobaal_cut takes: from it on a cut stream has every bit of the marked
+ *              coefficients
  * Pictures, regions, masks, planes and undone numbers are stored row by row, W * H elements each.
+ *
+ * WHERE LOWS AND HIGHS LIE
+ * A level works on an area, the upper left w columns and h rows of the buffer; the first area is the whole picture.
+ * First each of its rows is transformed: the (w + 1) / 2 lows (rounded down) take the left part of the row, the w / 2
+ * highs the rest, each in their order. Then each of its columns likewise: the (h + 1) / 2 lows take the upper part, the
+ * h / 2 highs the lower. The next level works on the lows of the lows, the upper left (w + 1) / 2 columns and
+ * (h + 1) / 2 rows. A mask byte lies where its coefficient lies.
  *
  * BUFFERS
  * A buffer is a pointer followed by its number of ELEMENTS (not bytes). The pointer is never null, not even for an
  * empty buffer, is aligned for its element, and leads to that many initialised elements. A buffer that is written
  * overlaps no other buffer of the call. Nothing is kept after a call. No buffer is lengthened or shortened.
- * A call allocates nothing; it keeps its working memory on the stack, at most as much as its description says
- * (measured by host/stack on pictures of 4,096 by 4,096, 4,095 by 61 and 61 by 4,095 with five levels).
  *
  * REFUSALS
- * Every function returns 0 (accepted) or the number of a refusal. No input has to be tested before a call. A
- * function has the refusals that its description lists. They are tested in the listed order, and the first whose
- * condition holds is returned; where none does, the call is accepted.
+ * Every function but dhiirqobaal_version returns 0 (accepted) or the number of a refusal. No input has to be tested
+ * before a call. A function has the refusals that its description lists. They are tested in the listed order, and the
+ * first whose condition holds is returned; where none does, the call is accepted. dhiirqobaal_refusal_text gives each
+ * number's meaning as a text.
  *
  *    1  kernel not 0 to 3
  *    2  J not 1 to 5
@@ -43,14 +55,14 @@
  *   10  a coefficient with a magnitude of 2^22 or more
  *   11  the stream buffer is too short; results[0] is the needed length
  *   12  the stream has fewer than 14 bytes or, under any version byte, fewer than 14 + 8k (k is its rectangle
- *       count), or its length field is not its length less 4
+ *       count), or its length field is not its length less 4 (in dhiirqobaal_arrived: is smaller than that)
  *   13  the stream's version is not 1
  *   14  the stream's T is above 22
  *   15  the wanted length is below the region mark or above the stream's length, or the marked part is not whole
  *   16  behind a complete body the stream has a filling bit that is not 0, or a further byte
  * The order over all calls is 12, 13, 1, 2, 3, 4, 7, 8, 14, 5, 6, 9, 10, 16, 15, 11.
  *
- * Under a refusal every output buffer holds what it held, with these exceptions alone:
+ * Under a refusal every output buffer other than results holds what it held, with these exceptions alone:
  *   16  dhiirqobaal_read and dhiirqobaal_cut: plane and mask are all 0
  *   15  dhiirqobaal_cut: plane and mask hold what dhiirqobaal_read gives for the stream
  *   11  dhiirqobaal_cut: the same; dhiirqobaal_write: mask holds the mask
@@ -77,9 +89,53 @@
  * every coefficient of the class, row by row, gives that bit of its magnitude, and behind its first 1 a sign bit, 1
  * for negative. The region mark is the length up to the byte that ends the marked part; where that part has no bit
  * it is the length up to the body, 14 + 8k.
+ * The body may be empty: that of a plane of zeros is (T is 0), and so is what a cut to 14 + 8k bytes leaves. Such a
+ * stream is read like any other, and ends where its body would begin.
  * A stream cut to c bytes is its first c bytes with c - 4 in the length field. Cut to any length from its region mark
  * to its own, a stream that is accepted with its marked part whole is accepted again, and every sample in its
  * rectangles is shown as it is uncut.
+ *
+ * SHOWING WHAT ARRIVED
+ * A call that broke off leaves the first bytes of a stream, whose length field still says how many were sent.
+ *   1. dhiirqobaal_arrived with the bytes that are there makes them the stream cut to what arrived.
+ *   2. dhiirqobaal_header gives W and H: plane, mask, undone and shown need W * H elements each.
+ *   3. dhiirqobaal_read gives plane and mask; results[DHIIRQOBAAL_READ_WHOLE] is 1 if every marked bit arrived.
+ *   4. dhiirqobaal_undo and dhiirqobaal_show, with the header's numbers, give the picture.
+ * A whole stream and one that dhiirqobaal_cut gave take the same way: dhiirqobaal_arrived leaves them as they are.
+ *
+ * THE LINK
+ * The bytes must arrive unchanged, in their order, none left out. The format has no check sum: a changed bit is read as
+ * it stands, and mostly no refusal and no result number tells of it. Where the link can change or lose bytes, send the
+ * stream inside a protocol that notices and repeats: ZMODEM on a serial line (or XMODEM with CRC, which fills its last
+ * block: hand on the length field plus 4 bytes alone), TLS or SSH on a network, or frames of your own with a CRC-32
+ * each, sent again until they arrive whole. Hand on only what passed its check: a part that failed it, and all that
+ * came behind it, must not reach these functions. What came before it is a call that broke off, as above.
+ *
+ * CALLING
+ * The library is x86-64 code, position-independent, that follows the System V ABI: the stack pointer is aligned to 16
+ * bytes at the call, the direction flag is clear. It needs two functions from outside, memcpy and memset, of the C
+ * library or of the program; it allocates nothing, makes no system call and has no variable of its own. It may be
+ * called from several threads at once, each with buffers of its own: no buffer that one call writes is used by another
+ * meanwhile.
+ *
+ * Its working memory is on the stack. Each description says how many bytes below the caller's stack pointer a call
+ * needs at most (DHIIRQOBAAL_STACK_READ and so on), with memcpy and memset of the GNU C library; host/stack measures
+ * them on pictures of 4,096 by 4,096, 4,095 by 61 and 61 by 4,095 with five levels, and calls each function on a thread
+ * that has little more. Every page of a large frame is touched in turn, so that one guard page below the stack is
+ * enough. A program that looks up memcpy and memset at their first call needs more in that call: link it with -z now.
+ *
+ * In a kernel or a hypervisor, besides memcpy and memset:
+ *   - SSE2 registers: the functions use the xmm registers without saving them (no x87, MMX or AVX register, and no
+ *     floating-point arithmetic, so that MXCSR does not matter). SSE has to be enabled (CR4.OSFXSR set, CR0.EM and
+ *     CR0.TS clear), and the caller saves and restores the state of the program that it interrupted:
+ *     kernel_fpu_begin() and kernel_fpu_end() around the calls on Linux, FXSAVE and FXRSTOR elsewhere.
+ *   - The red zone: the functions use up to 128 bytes below the stack pointer. An interrupt or exception that is taken
+ *     on the same stack in kernel mode overwrites them, and the call then gives wrong numbers or crashes. Let every
+ *     interrupt and exception switch to another stack (an interrupt stack table entry), or keep interrupts off during
+ *     the call, with all of its memory resident.
+ *   - The stack: a kernel's own is usually too small (16 KiB a thread on Linux). Switch to one of the stated size.
+ *   - Indirect branch tracking: the code has jump tables and no ENDBR64 instruction; it has to be off.
+ * Where that cannot be had, call the library from a process in user mode, where none of this is needed.
  */
 #ifndef DHIIRQOBAAL_H
 #define DHIIRQOBAAL_H
@@ -91,6 +147,14 @@
 extern "C" {
 #endif
 
+/* The version: of this header, and by dhiirqobaal_version of the library. 10,000 major + 100 minor + patch. */
+#define DHIIRQOBAAL_VERSION_MAJOR 1
+#define DHIIRQOBAAL_VERSION_MINOR 0
+#define DHIIRQOBAAL_VERSION_PATCH 0
+#define DHIIRQOBAAL_VERSION \
+    (10000 * DHIIRQOBAAL_VERSION_MAJOR + 100 * DHIIRQOBAAL_VERSION_MINOR + DHIIRQOBAAL_VERSION_PATCH)
+#define DHIIRQOBAAL_VERSION_TEXT "1.0.0"
+
 /* The limits. */
 #define DHIIRQOBAAL_MAX_SIDE 4096
 #define DHIIRQOBAAL_MAX_LEVELS 5
@@ -98,7 +162,22 @@ extern "C" {
 #define DHIIRQOBAAL_MAX_RECTANGLES 32
 #define DHIIRQOBAAL_MAX_PLANES 22
 
-/* What every function returns. */
+/* The bytes of stack that a call needs at most, below the caller's stack pointer. */
+#define DHIIRQOBAAL_STACK_REGION 1024
+#define DHIIRQOBAAL_STACK_MASK 40960
+#define DHIIRQOBAAL_STACK_TRANSFORM 143360
+#define DHIIRQOBAAL_STACK_UNDO 20480
+#define DHIIRQOBAAL_STACK_SHOW 1024
+#define DHIIRQOBAAL_STACK_TRUNCATE 1024
+#define DHIIRQOBAAL_STACK_WRITE 40960
+#define DHIIRQOBAAL_STACK_READ 40960
+#define DHIIRQOBAAL_STACK_CUT 40960
+#define DHIIRQOBAAL_STACK_BODY 1024
+#define DHIIRQOBAAL_STACK_ARRIVED 1024
+#define DHIIRQOBAAL_STACK_HEADER 4096
+#define DHIIRQOBAAL_STACK_VERSION 1024
+
+/* What every function but dhiirqobaal_version returns. */
 enum dhiirqobaal_refusal {
     DHIIRQOBAAL_ACCEPTED = 0,
     DHIIRQOBAAL_BAD_KERNEL = 1,
@@ -157,6 +236,53 @@ enum dhiirqobaal_body_result {
     DHIIRQOBAAL_BODY_RESULTS = 2 /* how many they are */
 };
 
+/* Where dhiirqobaal_arrived stores its result number. */
+enum dhiirqobaal_arrived_result {
+    DHIIRQOBAAL_ARRIVED_SENT = 0,   /* length of the stream that was sent */
+    DHIIRQOBAAL_ARRIVED_RESULTS = 1 /* how many they are */
+};
+
+/* Where dhiirqobaal_header stores its result numbers. */
+enum dhiirqobaal_header_result {
+    DHIIRQOBAAL_HEADER_KERNEL = 0,     /* kernel */
+    DHIIRQOBAAL_HEADER_LEVELS = 1,     /* J */
+    DHIIRQOBAAL_HEADER_DEPTH = 2,      /* D */
+    DHIIRQOBAAL_HEADER_WIDTH = 3,      /* W */
+    DHIIRQOBAAL_HEADER_HEIGHT = 4,     /* H */
+    DHIIRQOBAAL_HEADER_PLANES = 5,     /* T */
+    DHIIRQOBAAL_HEADER_COUNT = 6,      /* k, the number of rectangles */
+    DHIIRQOBAAL_HEADER_RECTANGLES = 7, /* 128 numbers: x, y, width, height of each in turn, 0 behind the last one */
+    DHIIRQOBAAL_HEADER_RESULTS = 135   /* how many they are */
+};
+
+/*
+ * The meaning of a refusal's number, 1 to 16, as a text; that of 0 is "accepted". It never returns null, whatever the
+ * number, and the text is not to be freed or changed.
+ */
+static inline const char *dhiirqobaal_refusal_text(uint64_t number)
+{
+    switch (number) {
+    case 0: return "accepted";
+    case 1: return "the kernel is not 0 to 3";
+    case 2: return "the levels J are not 1 to 5";
+    case 3: return "the depth D is not 1 to 10 (in dhiirqobaal_truncate: q is above 22)";
+    case 4: return "width or height is not 1 to 4,096";
+    case 5: return "a buffer does not have width times height elements";
+    case 6: return "a sample is above 2^D - 1";
+    case 7: return "there are more than 32 rectangles, or not four numbers for each";
+    case 8: return "a rectangle is empty or not wholly inside the picture";
+    case 9: return "a region or mask byte is above 1";
+    case 10: return "a coefficient's magnitude is 2^22 or more";
+    case 11: return "the stream buffer is too short";
+    case 12: return "the stream is shorter than its header, or its length field does not fit its length";
+    case 13: return "the stream's version is not 1";
+    case 14: return "the stream's plane count T is above 22";
+    case 15: return "the wanted length is below the region mark or above the stream's length, or the marked part is not whole";
+    case 16: return "behind the complete body there is a filling bit that is not 0, or a further byte";
+    default: return "a number that the interface does not have";
+    }
+}
+
 /*
  * The region of rectangles.
  *   numbers  x, y, width, height of each rectangle in turn; at most 32 rectangles, none and overlapping ones allowed
@@ -164,7 +290,7 @@ enum dhiirqobaal_body_result {
  *   region   written, W * H bytes
  * Refusals in their order: 4, 7, 8, 5 (region).
  * Accepted: region is 1 at every sample inside any rectangle and 0 at all others. Under each refusal: as it was.
- * It needs at most 1 KiB of stack.
+ * It needs at most 1,024 bytes of stack, DHIIRQOBAAL_STACK_REGION.
  */
 uint64_t dhiirqobaal_region(const uint32_t *numbers, size_t numbers_len, size_t w, size_t h, uint8_t *region,
                             size_t region_len);
@@ -176,7 +302,7 @@ uint64_t dhiirqobaal_region(const uint32_t *numbers, size_t numbers_len, size_t 
  *   mask                  written, W * H bytes
  * Refusals in their order: 1, 2, 4, 5 (region or mask), 9 (region).
  * Accepted: mask is the mask of the region after J levels, 0 or 1 each. Under each refusal: as it was.
- * It needs at most 40 KiB of stack.
+ * It needs at most 40,960 bytes of stack, DHIIRQOBAAL_STACK_MASK.
  */
 uint64_t dhiirqobaal_mask(size_t kernel, size_t levels, size_t w, size_t h, const uint8_t *region, size_t region_len,
                           uint8_t *mask, size_t mask_len);
@@ -189,7 +315,7 @@ uint64_t dhiirqobaal_mask(size_t kernel, size_t levels, size_t w, size_t h, cons
  * Refusals in their order: 1, 2, 3, 4, 5 (samples or plane), 6.
  * Accepted: plane holds the coefficients after J levels; they are accepted ones, and dhiirqobaal_undo gives the
  * samples back. Under each refusal: as it was.
- * It needs at most 140 KiB of stack.
+ * It needs at most 143,360 bytes of stack, DHIIRQOBAAL_STACK_TRANSFORM.
  */
 uint64_t dhiirqobaal_transform(size_t kernel, size_t levels, size_t depth, size_t w, size_t h,
                                const uint16_t *samples, size_t samples_len, int32_t *plane, size_t plane_len);
@@ -201,7 +327,7 @@ uint64_t dhiirqobaal_transform(size_t kernel, size_t levels, size_t depth, size_
  *   undone                written, W * H whole numbers of either sign; dhiirqobaal_show brings them into range
  * Refusals in their order: 1, 2, 4, 5 (plane or undone), 10.
  * Accepted: undone holds the numbers after all J levels are undone. Under each refusal: as it was.
- * It needs at most 48 KiB of stack.
+ * It needs at most 20,480 bytes of stack, DHIIRQOBAAL_STACK_UNDO.
  */
 uint64_t dhiirqobaal_undo(size_t kernel, size_t levels, size_t w, size_t h, const int32_t *plane, size_t plane_len,
                           int32_t *undone, size_t undone_len);
@@ -214,7 +340,7 @@ uint64_t dhiirqobaal_undo(size_t kernel, size_t levels, size_t w, size_t h, cons
  * Refusals in their order: 3, 4, 5 (undone or shown).
  * Accepted: shown is 0 for a number below 0, 2^D - 1 for one above that, else the number. Under each refusal: as it
  * was.
- * It needs at most 48 KiB of stack.
+ * It needs at most 1,024 bytes of stack, DHIIRQOBAAL_STACK_SHOW.
  */
 uint64_t dhiirqobaal_show(size_t depth, size_t w, size_t h, const int32_t *undone, size_t undone_len,
                           uint16_t *shown, size_t shown_len);
@@ -228,7 +354,7 @@ uint64_t dhiirqobaal_show(size_t depth, size_t w, size_t h, const int32_t *undon
  * Refusals in their order: 3 (q above 22), 4, 5 (mask or plane), 9 (mask), 10.
  * Accepted: a coefficient c whose mask byte is 0 becomes its sign times floor(|c| / 2^q) * 2^q; one whose mask byte is
  * 1 stays. Under each refusal: plane as it was.
- * It needs at most 1 KiB of stack.
+ * It needs at most 1,024 bytes of stack, DHIIRQOBAAL_STACK_TRUNCATE.
  */
 uint64_t dhiirqobaal_truncate(size_t q, size_t w, size_t h, const uint8_t *mask, size_t mask_len, int32_t *plane,
                               size_t plane_len);
@@ -245,9 +371,11 @@ uint64_t dhiirqobaal_truncate(size_t q, size_t w, size_t h, const uint8_t *mask,
  * Accepted: mask holds the mask; stream begins with the stream, and its bytes past the total length hold what they
  * held.
  * Under 11: mask holds the mask, stream holds what it held, results[0] is the needed length, results[1] and
- * results[2] are 0. A call with an empty stream buffer thus asks for the length.
+ * results[2] are 0. A call with an empty stream buffer (stream_len 0) thus asks for the length. It needs all the rest
+ * of a call: a stream pointer that is not null, the mask buffer of W * H bytes, which the call fills with the mask, and
+ * a cell of results.
  * Under 1, 2, 3, 4, 7, 8, 5 and 10: mask and stream hold what they held, results[0] to results[2] are 0.
- * It needs at most 40 KiB of stack.
+ * It needs at most 40,960 bytes of stack, DHIIRQOBAAL_STACK_WRITE.
  */
 uint64_t dhiirqobaal_write(const int32_t *plane, size_t plane_len, const uint32_t *numbers, size_t numbers_len,
                            size_t kernel, size_t levels, size_t depth, size_t w, size_t h, uint8_t *mask,
@@ -257,18 +385,19 @@ uint64_t dhiirqobaal_write(const int32_t *plane, size_t plane_len, const uint32_
 /*
  * Reads a stream, whole or cut.
  *   stream   all bytes of the stream and no others
- *   plane    written, W * H coefficients; W and H are those of the header (bytes 8 to 11 of the stream)
+ *   plane    written, W * H coefficients; W and H are those of the header, which dhiirqobaal_header gives
  *   mask     written, W * H bytes
  *   results  0 marks, 1 whole, 2 region mark, 3 q, 4 kernel, 5 J, 6 D, 7 W, 8 H, 9 T, 10 k, then 128 rectangle
  *            numbers, x, y, width and height of each rectangle in turn, 0 behind the last: 139 in all
  * Refusals in their order: 12, 13, 1, 2, 3, 4, 7 (k above 32), 8, 14, 5 (plane or mask), 16.
  * Accepted: mask holds the mask of the header's rectangles. plane holds what was received: bits that did not arrive
  * are 0, and a coefficient whose first 1 arrived without its sign is 0. A T larger than needed is taken. whole is 1
- * if every bit of the marked part arrived; region mark is 0 if not. q is the number of planes of the unmarked that
- * were not wholly received: T if the marked part is not whole; 0 if it is and nothing is unmarked.
+ * if every bit of the marked part arrived, as it always is where nothing is marked; region mark is 0 if not. q is the
+ * number of planes of the unmarked that were not wholly received: T if the marked part is not whole; 0 if it is and
+ * nothing is unmarked. The plane is accepted by dhiirqobaal_undo.
  * Under 16: plane and mask are all 0, the 139 result numbers are 0.
  * Under 12, 13, 1, 2, 3, 4, 7, 8, 14 and 5: plane and mask hold what they held, the 139 result numbers are 0.
- * It needs at most 40 KiB of stack.
+ * It needs at most 40,960 bytes of stack, DHIIRQOBAAL_STACK_READ.
  */
 uint64_t dhiirqobaal_read(const uint8_t *stream, size_t stream_len, int32_t *plane, size_t plane_len, uint8_t *mask,
                           size_t mask_len, uint64_t *results, size_t results_len);
@@ -291,7 +420,7 @@ uint64_t dhiirqobaal_read(const uint8_t *stream, size_t stream_len, int32_t *pla
  * Under 11: the same, but results[0] is the needed length, `wanted`.
  * Under 16: out holds what it held; plane and mask are all 0; results[0] is 0.
  * Under 12, 13, 1, 2, 3, 4, 7, 8, 14 and 5: out, plane and mask hold what they held; results[0] is 0.
- * It needs at most 40 KiB of stack.
+ * It needs at most 40,960 bytes of stack, DHIIRQOBAAL_STACK_CUT.
  */
 uint64_t dhiirqobaal_cut(const uint8_t *stream, size_t stream_len, size_t wanted, int32_t *plane, size_t plane_len,
                          uint8_t *mask, size_t mask_len, uint8_t *out, size_t out_len, uint64_t *results,
@@ -303,11 +432,49 @@ uint64_t dhiirqobaal_cut(const uint8_t *stream, size_t stream_len, size_t wanted
  *   stream   all bytes of the stream and no others
  *   results  0 where the body begins in the stream, 1 its length in bytes
  * Refusals in their order: 12, 13.
- * Accepted: the body is stream[results[0]] to stream[results[0] + results[1] - 1]. Under each refusal both result
- * numbers are 0. The stream is not written.
- * It needs at most 1 KiB of stack.
+ * Accepted: the body is the results[1] bytes from stream[results[0]] on. Where results[1] is 0 the body is empty and
+ * results[0] is the stream's length, so that there is no byte at that place. Under each refusal both result numbers are
+ * 0. The stream is not written.
+ * It needs at most 1,024 bytes of stack, DHIIRQOBAAL_STACK_BODY.
  */
 uint64_t dhiirqobaal_body(const uint8_t *stream, size_t stream_len, uint64_t *results, size_t results_len);
+
+/*
+ * Makes what a call that broke off has left the stream cut to what arrived, in place. It looks at the length field and
+ * at k alone: the rest of the header may still be refused by dhiirqobaal_header and dhiirqobaal_read.
+ *   stream   read and written, the bytes that arrived and no others
+ *   results  0 length of the stream that was sent: the length field as it was, plus 4
+ * Refusals: 12, here for fewer than 14 bytes, fewer than 14 + 8k under any version byte, or more bytes than the length
+ * field says (a field below stream_len - 4).
+ * Accepted: where the length field is larger than stream_len - 4, it becomes stream_len - 4; any other is right and
+ * stays. All bytes behind the field stay. What arrived is stream_len bytes of results[0], all where the two are equal.
+ * Under 12: stream holds what it held, results[0] is 0.
+ * What the call leaves of the first c bytes of a stream, c from the end of its header (14 + 8k) to its length, is the
+ * stream cut to c bytes (this is proved). Of a stream that dhiirqobaal_write gave it is thus, from the region mark on,
+ * what dhiirqobaal_cut gives for c; below it dhiirqobaal_read accepts it and answers that its marked part is not whole.
+ * It needs at most 1,024 bytes of stack, DHIIRQOBAAL_STACK_ARRIVED.
+ */
+uint64_t dhiirqobaal_arrived(uint8_t *stream, size_t stream_len, uint64_t *results, size_t results_len);
+
+/*
+ * The numbers of a stream's header, without any buffer. A caller sizes its buffers by them: plane and mask for
+ * dhiirqobaal_read, undone and shown for the picture have W * H elements each, 16,777,216 at most.
+ *   stream   all bytes of the stream and no others; of the body the length alone matters
+ *   results  0 kernel, 1 J, 2 D, 3 W, 4 H, 5 T, 6 k, then 128 rectangle numbers, x, y, width and height of each
+ *            rectangle in turn, 0 behind the last: 135 in all
+ * Refusals in their order: 12, 13, 1, 2, 3, 4, 7 (k above 32), 8, 14.
+ * Accepted: the 135 result numbers are those of the header; of dhiirqobaal_read's refusals 5 and 16 are left. Under
+ * each refusal all 135 are 0. The stream is not written.
+ * It needs at most 4,096 bytes of stack, DHIIRQOBAAL_STACK_HEADER.
+ */
+uint64_t dhiirqobaal_header(const uint8_t *stream, size_t stream_len, uint64_t *results, size_t results_len);
+
+/*
+ * The library's version, 10,000 major + 100 minor + patch: 10000 for 1.0.0. A program that was compiled with the header
+ * of the same version finds it equal to DHIIRQOBAAL_VERSION. It takes nothing and refuses nothing.
+ * It needs at most 1,024 bytes of stack, DHIIRQOBAAL_STACK_VERSION.
+ */
+uint64_t dhiirqobaal_version(void);
 
 #ifdef __cplusplus
 }
