@@ -85,6 +85,8 @@ calls! {
         out: Vec<u8>, results: Vec<u64>
     );
     Body = body(stream: Vec<u8>, results: Vec<u64>);
+    Header = header(stream: Vec<u8>, results: Vec<u64>);
+    Arrived = arrived(stream: Vec<u8>, results: Vec<u64>);
 }
 
 /// The named numbers and buffers of a call.

@@ -27,7 +27,7 @@ use random::Random;
 type Entry = (&'static str, u64, fn(&mut Group, &mut Random));
 
 #[rustfmt::skip]
-const GROUPS: [Entry; 44] = [
+const GROUPS: [Entry; 46] = [
     ("region, accepted", 4_000, arguments::region::accepted),
     ("region, one wrong argument", 9_000, arguments::region::one_wrong),
     ("region, several wrong arguments", 20_000, arguments::region::several_wrong),
@@ -62,6 +62,8 @@ const GROUPS: [Entry; 44] = [
     ("streams, buffer lengths", 200, streams::buffer_lengths),
     ("streams, every cut", 300, streams::every_cut),
     ("streams, every truncation", 300, streams::every_truncation),
+    ("streams, what arrived", 300, streams::what_arrived),
+    ("streams, length fields", 10_000, streams::length_fields),
     ("streams, every byte changed", 300, streams::every_byte),
     ("streams, several header bytes", 40_000, streams::several_header_bytes),
     ("streams, rectangles of the header", 10_000, streams::header_rectangles),
@@ -75,7 +77,7 @@ const GROUPS: [Entry; 44] = [
 ];
 
 /// The numbers that each entry returns; each must come up in some case.
-const RETURNED: [(&str, &[u64]); 10] = [
+const RETURNED: [(&str, &[u64]); 12] = [
     ("region", &[0, 4, 7, 8, 5]),
     ("mask", &[0, 1, 2, 4, 5, 9]),
     ("transform", &[0, 1, 2, 3, 4, 5, 6]),
@@ -86,6 +88,8 @@ const RETURNED: [(&str, &[u64]); 10] = [
     ("read", &[0, 12, 13, 1, 2, 3, 4, 7, 8, 14, 5, 16]),
     ("cut", &[0, 12, 13, 1, 2, 3, 4, 7, 8, 14, 5, 16, 15, 11]),
     ("body", &[0, 12, 13]),
+    ("header", &[0, 12, 13, 1, 2, 3, 4, 7, 8, 14]),
+    ("arrived", &[0, 12]),
 ];
 
 type Seen = BTreeSet<(&'static str, u64)>;

@@ -11,6 +11,8 @@ pub const WRITE_RESULTS: [usize; 6] = [0, 1, 2, 3, 4, 9];
 pub const READ_RESULTS: [usize; 8] = [0, 1, 4, 11, 15, 138, 139, 145];
 pub const CUT_RESULTS: [usize; 4] = [0, 1, 2, 5];
 pub const BODY_RESULTS: [usize; 5] = [0, 1, 2, 3, 6];
+pub const HEADER_RESULTS: [usize; 7] = [0, 1, 7, 11, 134, 135, 141];
+pub const ARRIVED_RESULTS: [usize; 3] = [0, 1, 4];
 
 /// What a header says, but for the plane count.
 #[derive(Clone)]

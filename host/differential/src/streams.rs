@@ -6,7 +6,8 @@ use crate::guarded::held;
 use crate::random::Random;
 use crate::shots::{self, mend, Written};
 
-/// Reader, cutter and body over one stream, with buffers of that many samples.
+/// Every call that takes a stream, over one stream, with buffers of that many
+/// samples.
 fn compare_all(group: &mut Group, random: &mut Random, stream: &[u8], len: usize) {
     group.compare(Call::Read {
         stream: stream.to_vec(),
@@ -26,6 +27,14 @@ fn compare_all(group: &mut Group, random: &mut Random, stream: &[u8], len: usize
     group.compare(Call::Body {
         stream: stream.to_vec(),
         results: held(random.pick(&shots::BODY_RESULTS)),
+    });
+    group.compare(Call::Header {
+        stream: stream.to_vec(),
+        results: held(random.pick(&shots::HEADER_RESULTS)),
+    });
+    group.compare(Call::Arrived {
+        stream: stream.to_vec(),
+        results: held(random.pick(&shots::ARRIVED_RESULTS)),
     });
 }
 
@@ -173,6 +182,52 @@ pub fn every_truncation(group: &mut Group, random: &mut Random) {
             compare_all(group, random, &stream, written.shape.len());
         }
     }
+}
+
+/// The first bytes of a stream, as many as may arrive: what is left of them is
+/// the stream cut to that length, which is read as the cutter's is.
+pub fn what_arrived(group: &mut Group, random: &mut Random) {
+    let written = shots::tiny_written(random);
+    let total = written.stream.len();
+    let header = 14 + 2 * written.shape.numbers.len();
+    for c in 0..=total {
+        let call = Call::Arrived {
+            stream: written.stream[..c].to_vec(),
+            results: held(1),
+        };
+        let (number, answer) = group.compare(call.clone());
+        let mut cut = written.stream[..c].to_vec();
+        if c >= header {
+            mend(&mut cut);
+        }
+        let Call::Arrived { stream, results } = answer else {
+            continue;
+        };
+        let told = match c >= header {
+            true => number == 0 && results == [total as u64],
+            false => number == 12 && results == [0],
+        };
+        group.expect(told, &call, "0 and the length, or 12 within the header");
+        group.expect(stream == cut, &call, "the stream cut to what arrived");
+        compare_all(group, random, &stream, written.shape.len());
+    }
+}
+
+/// Length fields around the length, and at both ends of what four bytes hold.
+pub fn length_fields(group: &mut Group, random: &mut Random) {
+    let written = shots::tiny_written(random);
+    let mut stream = written.stream;
+    stream.truncate(random.within(0, stream.len()));
+    let there = stream.len() as u32;
+    let near = there.wrapping_sub(4).wrapping_add(random.below(9) as u32);
+    let field = random.pick(&[0, near.wrapping_sub(4), near, 1 << 31, u32::MAX]);
+    for (cell, byte) in stream.iter_mut().zip(field.to_be_bytes()) {
+        *cell = byte;
+    }
+    if random.once_in(3) && stream.len() > 12 {
+        stream[12] = random.pick(&[0, 1, 2, 3, 255]);
+    }
+    compare_all(group, random, &stream, written.shape.len());
 }
 
 /// Every byte changed to several values, in whole and in cut streams.

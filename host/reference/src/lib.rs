@@ -13,10 +13,10 @@ mod refusal;
 mod stream;
 
 use refusal::Tested;
-use stream::Header;
+use stream::{Header, HEADER_RESULTS};
 
-/// Result numbers of the reader: eleven, then four for each of 32 rectangles.
-pub const READ_RESULTS: usize = 11 + 4 * refusal::MOST_RECTANGLES;
+/// Result numbers of the reader: four, then those of the header.
+pub const READ_RESULTS: usize = 4 + HEADER_RESULTS;
 
 /// Puts the result numbers into the cells that are there.
 fn put(results: &mut [u64], numbers: &[u64]) {
@@ -246,22 +246,13 @@ struct Answer {
 
 impl Answer {
     fn results(&self) -> Vec<u64> {
-        let header = &self.header;
         let mut results = vec![
             self.marks,
             u64::from(self.whole),
             self.region_mark as u64,
             self.q as u64,
-            header.kernel as u64,
-            header.levels as u64,
-            header.depth as u64,
-            header.w as u64,
-            header.h as u64,
-            header.planes as u64,
-            header.numbers.len() as u64 / 4,
         ];
-        results.extend(header.numbers.iter().map(|&number| u64::from(number)));
-        results.resize(READ_RESULTS, 0);
+        results.extend(self.header.results());
         results
     }
 }
@@ -343,6 +334,25 @@ pub fn body(stream: &[u8], results: &mut [u64]) -> u64 {
         }
         Err(number) => {
             put(results, &[0; 2]);
+            number
+        }
+    }
+}
+
+pub fn arrived(stream: &mut [u8], results: &mut [u64]) -> u64 {
+    let arrived = stream::arrive(stream);
+    put(results, &[arrived.unwrap_or(0)]);
+    arrived.err().unwrap_or(0)
+}
+
+pub fn header(stream: &[u8], results: &mut [u64]) -> u64 {
+    match stream::parse(stream) {
+        Ok((header, _)) => {
+            put(results, &header.results());
+            0
+        }
+        Err(number) => {
+            put(results, &[0; HEADER_RESULTS]);
             number
         }
     }

@@ -5,6 +5,9 @@ use crate::refusal;
 /// What stands before the rectangles.
 const FIXED: usize = 14;
 
+/// Numbers of a header: seven, then four for each of 32 rectangles.
+pub const HEADER_RESULTS: usize = 7 + 4 * refusal::MOST_RECTANGLES;
+
 /// What the header says, its rectangles as x, y, width, height in turn.
 pub struct Header {
     pub kernel: usize,
@@ -14,6 +17,25 @@ pub struct Header {
     pub h: usize,
     pub planes: usize,
     pub numbers: Vec<u32>,
+}
+
+impl Header {
+    /// Its seven numbers, then four for each of 32 rectangles, 0 behind the
+    /// last.
+    pub fn results(&self) -> Vec<u64> {
+        let mut results = vec![
+            self.kernel as u64,
+            self.levels as u64,
+            self.depth as u64,
+            self.w as u64,
+            self.h as u64,
+            self.planes as u64,
+            self.numbers.len() as u64 / 4,
+        ];
+        results.extend(self.numbers.iter().map(|&number| u64::from(number)));
+        results.resize(HEADER_RESULTS, 0);
+        results
+    }
 }
 
 /// Bytes before the body.
@@ -27,13 +49,35 @@ fn number(stream: &[u8], place: usize, bytes: usize) -> u64 {
         .fold(0, |number, &byte| number * 256 + u64::from(byte))
 }
 
-/// Refusals 12 and 13; gives the place where the body begins.
-pub fn find_body(stream: &[u8]) -> Result<usize, u64> {
-    if stream.len() < FIXED {
+/// The place where the body begins, if the header is whole.
+fn whole_header(stream: &[u8]) -> Option<usize> {
+    let start = body_start(*stream.get(12)? as usize);
+    if stream.len() < FIXED || stream.len() < start {
+        return None;
+    }
+    Some(start)
+}
+
+/// What a call that broke off left: gives the length that was sent, and sets
+/// a length field that is larger than what is there. Refusal 12 for a header
+/// that is not whole, and for more bytes than the length field says.
+pub fn arrive(stream: &mut [u8]) -> Result<u64, u64> {
+    whole_header(stream).ok_or(12u64)?;
+    let field = number(stream, 0, 4);
+    let there = stream.len() as u64 - 4;
+    if field < there {
         return Err(12);
     }
-    let start = body_start(stream[12] as usize);
-    if stream.len() < start || number(stream, 0, 4) != stream.len() as u64 - 4 {
+    if field > there {
+        stream[..4].copy_from_slice(&(there as u32).to_be_bytes());
+    }
+    Ok(field + 4)
+}
+
+/// Refusals 12 and 13; gives the place where the body begins.
+pub fn find_body(stream: &[u8]) -> Result<usize, u64> {
+    let start = whole_header(stream).ok_or(12u64)?;
+    if number(stream, 0, 4) != stream.len() as u64 - 4 {
         return Err(12);
     }
     if stream[4] != 1 {
