@@ -125,14 +125,24 @@ fn widened(sample: u16, few: u32, bits: u32) -> u16 {
     (wide | u32::from(sample) >> (few - room)) as u16
 }
 
-/// The samples with the bits that are significant, and the number of these bits, where each sample is its own
-/// significant bits repeated; else as they stand.
+/// A sample of `few` bits as one of `bits`: in proportion, rounded, the other way that PNG's specification gives; others
+/// write such files.
+fn rounded(sample: u16, few: u32, bits: u32) -> u16 {
+    let (from, to) = ((1u64 << few) - 1, (1u64 << bits) - 1);
+    ((2 * u64::from(sample) * to + from) / (2 * from)) as u16
+}
+
+/// The samples with the bits that are significant, and the number of these bits, where all samples were made of them in
+/// one of the two ways; else as they stand.
 fn narrowed(samples: Vec<u16>, significant: Option<u32>, bits: u32) -> (Vec<u16>, u32) {
     let Some(few) = significant.filter(|&few| 0 < few && few < bits) else {
         return (samples, bits);
     };
-    if samples.iter().all(|&s| widened(s >> (bits - few), few, bits) == s) {
-        (samples.iter().map(|s| s >> (bits - few)).collect(), few)
+    // Both ways keep the sample in the highest bits.
+    let high: Vec<u16> = samples.iter().map(|s| s >> (bits - few)).collect();
+    let made_by = |way: fn(u16, u32, u32) -> u16| high.iter().map(|&s| way(s, few, bits)).eq(samples.iter().copied());
+    if made_by(widened) || made_by(rounded) {
+        (high, few)
     } else {
         (samples, bits)
     }

@@ -84,6 +84,11 @@ fn significant_bits() {
     for bits in [&[][..], &[0], &[8], &[9], &[255], &[2]] {
         assert_eq!(parse(&repeated(bits)).unwrap(), picture(2, 1, 255, &[0b10110110, 255]), "{bits:?}");
     }
+    // In proportion, 3 of 31 is 24.7 of 255 and 16 of 31 is 131.6; repeated, their bits are 24 and 132.
+    let proportion = |a, b| parse(&file((2, 1, 8, 0, 0), &[(b"sBIT", &[5])], &[0, a, b])).unwrap();
+    assert_eq!(proportion(25, 132), picture(2, 1, 31, &[3, 16]));
+    assert_eq!(proportion(24, 132), picture(2, 1, 31, &[3, 16]));
+    assert_eq!(proportion(26, 132), picture(2, 1, 255, &[26, 132]));
     let shifted = file((2, 1, 8, 0, 0), &[(b"sBIT", &[3])], &[0, 0b10100000, 0b11111111]);
     assert_eq!(parse(&shifted).unwrap(), picture(2, 1, 255, &[0b10100000, 255]));
 }
@@ -98,6 +103,18 @@ fn bits_are_repeated_from_the_highest_down() {
     for few in 1..=16 {
         for bits in few..=16 {
             assert_eq!(widened(u16::MAX >> (16 - few), few, bits), u16::MAX >> (16 - bits), "{few} {bits}");
+        }
+    }
+}
+
+#[test]
+fn both_ways_keep_the_sample_in_the_highest_bits() {
+    for few in 1..=10 {
+        for bits in few..=16 {
+            for sample in 0..1 << few {
+                assert_eq!(widened(sample, few, bits) >> (bits - few), sample, "{few} {bits}");
+                assert_eq!(rounded(sample, few, bits) >> (bits - few), sample, "{few} {bits}");
+            }
         }
     }
 }
