@@ -1,13 +1,13 @@
-//! Files that are not taken: what they seem to be, and the command that makes a picture of them that is taken. The
-//! commands are those of netpbm, and of the package webp.
+//! Files that are not taken: what they seem to be, and the command that makes a picture of them that is taken.
 
 const TAKEN: &str = "PGM files (they begin with P5 or P2) and grey PNG files are taken";
 const PPM: &str =
-    "a PPM picture, which has colours; colour waits for a later version: 'ppmtopgm IN > OUT.pgm' makes it \
-                   grey";
-const PBM: &str = "a PBM picture; 'pbmtopgm 1 1 IN > OUT.pgm' makes it a PGM file of the same samples";
-const PAM: &str = "a PAM picture; 'pamtopnm IN > OUT.pgm' makes a PGM file of a grey one; colour waits for a later \
-                   version: 'pamtopnm IN | ppmtopgm > OUT.pgm' makes it grey";
+    "a PPM picture, which has colours; colour waits for a later version: 'ppmtopgm IN > OUT.pgm' (netpbm) \
+                   makes it grey";
+const PBM: &str = "a PBM picture; 'pbmtopgm 1 1 IN > OUT.pgm' (netpbm) makes a PGM file of it";
+const PAM: &str =
+    "a PAM picture; 'pamtopnm IN | ppmtopgm > OUT.pgm' (netpbm) makes a PGM file of it, grey where it has \
+                   colours; colour waits for a later version";
 const STREAM: &str = "it seems to be a stream, not a picture; 'dhiirqobaal show IN OUT.pgm' makes a picture of it";
 
 /// The pictures of other formats, by what their files begin with.
@@ -28,11 +28,13 @@ pub fn message(file: &[u8]) -> String {
         [b'P', b'1' | b'4', ..] => PBM.to_string(),
         [b'P', b'7', ..] => PAM.to_string(),
         [b'R', b'I', b'F', b'F', _, _, _, _, b'W', b'E', b'B', b'P', ..] => {
-            format!("a WebP picture; {TAKEN}: 'dwebp IN -ppm -o - | ppmtopgm > OUT.pgm' makes one")
+            format!("a WebP picture; {TAKEN}: 'dwebp IN -ppm -o - | ppmtopgm > OUT.pgm' (webp, netpbm) makes one of it")
         }
         _ if is_stream(file) => STREAM.to_string(),
         _ => match STARTS.iter().find(|(start, _)| file.starts_with(start)) {
-            Some((_, name)) => format!("a {name} picture; {TAKEN}: 'anytopnm IN | ppmtopgm > OUT.pgm' makes one"),
+            Some((_, name)) => {
+                format!("a {name} picture; {TAKEN}: 'anytopnm IN | ppmtopgm > OUT.pgm' (netpbm) makes one of it")
+            }
             None => format!("not a picture that is taken; {TAKEN}"),
         },
     }

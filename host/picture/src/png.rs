@@ -18,15 +18,15 @@ const LIMITS: Limits = Limits { bytes: 2 << 28 };
 const DAMAGED: &str =
     "the PNG file is damaged: its header, its compressed data or a check sum is not right; copy or make the file again";
 const COLOUR: &str = "the PNG picture has colours or a palette; colour waits for a later version: \
-                      'pngtopnm IN | ppmtopgm > OUT.pgm' makes it grey";
+                      'pngtopnm IN | ppmtopgm > OUT.pgm' (netpbm) makes it grey";
 const ALPHA: &str = "the PNG picture has an alpha channel, and no transparency is carried: \
-                     'pngtopnm -mix IN > OUT.pgm' mixes it with its background";
+                     'pngtopnm -mix IN > OUT.pgm' (netpbm) mixes it with its background";
 const ALPHA_IN_COLOUR: &str =
     "the PNG picture has colours and an alpha channel; colour waits for a later version, and no \
-                               transparency is carried: 'pngtopnm -mix IN | ppmtopgm > OUT.pgm' makes it grey, mixed \
-                               with its background";
+                               transparency is carried: 'pngtopnm -mix IN | ppmtopgm > OUT.pgm' (netpbm) makes it grey, \
+                               mixed with its background";
 const TRANSPARENT: &str = "the PNG picture has a transparent value (tRNS), and no transparency is carried: \
-                           'pngtopnm -mix IN | ppmtopgm > OUT.pgm' mixes it with its background";
+                           'pngtopnm -mix IN | ppmtopgm > OUT.pgm' (netpbm) mixes it with its background";
 
 /// Takes a file that begins with PNG's signature.
 pub fn parse(file: &[u8]) -> Result<Picture, String> {
@@ -74,7 +74,7 @@ fn check_size(info: &Info, chunks: &Chunks) -> Result<(), String> {
     if samples > MOST_SAMPLES {
         return Err(format!(
             "the picture has {width} by {height} samples, more than the {MOST_SAMPLES} that are read: \
-             'pngtopnm IN | pamscale -xysize 4096 4096 > OUT.pgm' makes it smaller"
+             'pngtopnm IN | pamscale -xysize 4096 4096 > OUT.pgm' (netpbm) makes it smaller"
         ));
     }
     if samples * info.bit_depth as u64 / 8 / MOST_FROM_A_BYTE > chunks.data as u64 {
