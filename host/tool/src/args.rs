@@ -45,7 +45,7 @@ pub enum Command {
 /// The picture is a PGM (plain or raw) or PNG file, grey, of any size up to 4,096 by 4,096. Its
 /// depth is that of its maximum value unless --depth says otherwise.
 ///
-/// 5/3 with 3 levels, the default, is sound for any panel. More levels show the rest of the picture
+/// 5/3 with 3 levels, the default, is a sound start. More levels show the rest of the picture
 /// earlier and move the region mark a little later: take 5 where the call may end early, 1 where
 /// the rectangles are all that counts. s has the shortest region mark at 2 levels and more. The
 /// demonstration's panel, 1,366 by 768 samples with 8 rectangles: bit planes, bytes up to the region
@@ -235,7 +235,7 @@ impl From<FormatName> for Format {
 }
 
 fn whole(text: &str) -> Result<usize, String> {
-    number(text).ok_or_else(|| "a whole number is taken".to_string())
+    number(text).ok_or_else(|| "a whole number below 2^64 is taken".to_string())
 }
 
 /// A kernel by its number, or by its name in either case of letters, with or without the sign inside.

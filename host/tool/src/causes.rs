@@ -61,21 +61,22 @@ pub fn of_picture(number: u64, setting: &Setting, picture: &Picture, given: Opti
     let words = of_setting(number, setting);
     match (number, given) {
         (3, None) => format!(
-            "{} (the maximum value {} has {} bits); {}{}",
+            "{} (the maximum value {} has {} bits); {MAKE_IT_FIT}; {OF_PNG}{}",
             meaning(3),
             words::grouped(picture.top.into()),
             picture.depth(),
-            MAKE_IT_FIT,
             taken_as_it_is(picture)
         ),
         (4, _) => format!(
-            "{words}; 'pamscale -xysize 4096 4096 IN > OUT' of netpbm makes it smaller, 'pamcut' takes a part of it"
+            "{words}; 'pamscale -xysize 4096 4096 IN > OUT.pgm' (netpbm) makes it smaller, 'pamcut' takes a part of it; \
+             {OF_PNG}"
         ),
         _ => words,
     }
 }
 
-const MAKE_IT_FIT: &str = "'pamdepth 1023 IN > OUT' of netpbm makes it fit";
+const MAKE_IT_FIT: &str = "'pamdepth 1023 IN > OUT.pgm' (netpbm) makes it fit";
+const OF_PNG: &str = "of a PNG file 'pngtopnm' makes the IN";
 
 fn largest(picture: &Picture) -> u16 {
     picture.samples.iter().copied().max().unwrap_or(0)
@@ -97,11 +98,11 @@ fn taken_as_it_is(picture: &Picture) -> &'static str {
 pub fn large_sample(picture: &Picture, depth: usize) -> Option<String> {
     let place = picture.samples.iter().position(|&sample| u64::from(sample) > top(depth))?;
     let advice = match bits(largest(picture)) {
-        needed if needed > MAX_DEPTH => MAKE_IT_FIT.to_string(),
+        needed if needed > MAX_DEPTH => format!("{MAKE_IT_FIT}; {OF_PNG}"),
         needed => format!("--depth {needed} takes it"),
     };
     Some(format!(
-        "{} (column {}, row {}, counted from 0, has {}, and the largest value at depth {depth} is {}); {advice}",
+        "{}: the one in column {}, row {} (counted from 0) is {}, the largest value at depth {depth} is {}; {advice}",
         meaning(6),
         place % picture.width,
         place / picture.width,
