@@ -242,7 +242,7 @@ fn whole(text: &str) -> Result<usize, String> {
 fn kernel(text: &str) -> Result<usize, String> {
     let plain = |name: &str| name.replace(['+', '/'], "").to_lowercase();
     let named = |name: &&str| name.eq_ignore_ascii_case(text) || plain(name) == text.to_lowercase();
-    let found = KERNELS.iter().position(|name| named(&name)).or_else(|| number(text));
+    let found = KERNELS.iter().position(named).or_else(|| number(text));
     found.ok_or_else(|| "a kernel is s, s+p, tt or 5/3, or a number, 0 to 3".to_string())
 }
 
@@ -254,6 +254,12 @@ mod tests {
     #[test]
     fn the_command_line_is_in_order() {
         Line::command().debug_assert();
+    }
+
+    #[test]
+    fn the_library_has_the_version_of_the_program() {
+        let numbers: Vec<u64> = env!("CARGO_PKG_VERSION").split('.').map(|part| part.parse().unwrap()).collect();
+        assert_eq!(bindings::version(), 10_000 * numbers[0] + 100 * numbers[1] + numbers[2]);
     }
 
     #[test]

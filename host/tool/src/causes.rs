@@ -1,7 +1,7 @@
 //! Why the codec refused, in words: which number, rectangle, sample or length it was, and what to do next.
 
 use crate::cable::Cable;
-use crate::codec::{Reading, Setting, Stream};
+use crate::codec::{Setting, Stream};
 use crate::failure::meaning;
 use crate::rectangles::{self, Rectangle};
 use crate::words;
@@ -148,17 +148,18 @@ fn claimed(stream: &[u8]) -> Option<Setting> {
     })
 }
 
+const SHORT: &str = "the stream is shorter than its header";
+
 /// Which of the causes of 12 it was.
 fn of_length(stream: &[u8]) -> String {
     let there = words::count(stream.len(), "byte");
     let Some(fixed) = stream.first_chunk::<14>() else {
-        return format!("the stream is shorter than its header: {there}, where a header has 14 at least; nothing can be shown of it");
+        return format!("{SHORT}: {there}, where a header has 14 at least; nothing can be shown of it");
     };
     let count = usize::from(fixed[12]);
     if stream.len() < 14 + 8 * count {
         return format!(
-            "the stream is shorter than its header: a header of {} needs {} bytes, and {} \
-             are there; nothing can be shown of it",
+            "{SHORT}: a header of {} needs {} bytes, and {} are there; nothing can be shown of it",
             words::count(count, "rectangle"),
             14 + 8 * count,
             stream.len()
@@ -173,22 +174,19 @@ fn of_length(stream: &[u8]) -> String {
 }
 
 /// Which of the causes of 15 it was.
-pub fn of_cut(wanted: usize, stream: &Stream, reading: &Reading, cable: &Cable) -> String {
+pub fn of_cut(wanted: usize, stream: &Stream, cable: &Cable) -> String {
+    let Ok(reading) = stream.read() else {
+        return meaning(15).to_string();
+    };
     if !reading.whole {
         return "the marked part is not whole, so that there is no length to cut to; 'show' shows what arrived"
             .to_string();
     }
-    let (mark, length) = (reading.region_mark, stream.bytes.len());
-    let wanted_words = words::count(wanted, "byte");
-    match wanted < mark {
-        true => format!(
-            "the wanted length, {wanted_words}, is below the region mark, {}; --mark cuts to it",
-            cable.length(mark)
-        ),
-        false => {
-            format!("the wanted length, {wanted_words}, is above the stream's length, {}", words::count(length, "byte"))
-        }
-    }
+    let limit = match wanted < reading.region_mark {
+        true => format!("below the region mark, {}; --mark cuts to it", cable.length(reading.region_mark)),
+        false => format!("above the stream's length, {}", words::count(stream.bytes.len(), "byte")),
+    };
+    format!("the wanted length, {}, is {limit}", words::count(wanted, "byte"))
 }
 
 #[cfg(test)]

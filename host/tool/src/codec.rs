@@ -156,7 +156,7 @@ impl Stream {
         Ok(Reading { plane, marks, whole: whole == 1, region_mark, missing })
     }
 
-    /// The bytes of the stream cut to a wanted length, and those refused with words of what is wrong with it.
+    /// The bytes of the stream cut to a wanted length; `cause` says why a length is refused (15).
     pub fn cut(&self, wanted: usize, cause: impl FnOnce() -> String) -> Result<Vec<u8>, Failure> {
         let mut plane = zeros::<i32>(self.setting.area())?;
         let mut mask = zeros::<u8>(self.setting.area())?;

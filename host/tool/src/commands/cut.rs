@@ -23,11 +23,7 @@ pub fn run(args: &Cut, quiet: bool) -> Result<Status, Failure> {
 fn one(job: &Job, args: &Cut, cable: &Cable, messages: &Messages) -> Result<Status, Failure> {
     let name = input::name(&job.input);
     let stream = read_stream(&job.input, messages)?;
-    let reading = stream.read().map_err(|failure| failure.of(&name))?;
-    let length = wanted(args, &stream, &reading, cable);
-    let cut = stream.cut(length, || causes::of_cut(length, &stream, &reading, cable));
-    let cut = Stream::of(cut.map_err(|failure| failure.of(&name))?)?;
-    let left = cut.read()?;
+    let (length, cut, left) = shortened(&stream, args, cable).map_err(|failure| failure.of(&name))?;
     output::write(&job.output, &cut.bytes)?;
     messages.report(&format!(
         "{}: {} of {}, {:.3} s, from {name}; {}\n{}",
@@ -41,11 +37,15 @@ fn one(job: &Job, args: &Cut, cable: &Cable, messages: &Messages) -> Result<Stat
     Ok(report::status(&cut, &left))
 }
 
-/// The length to cut to. Where the region mark is wanted and not known, it is 0, which is refused.
-fn wanted(args: &Cut, stream: &Stream, reading: &Reading, cable: &Cable) -> usize {
-    match (args.length, args.seconds) {
+/// The length that was wanted, the stream cut to it, and what that holds.
+fn shortened(stream: &Stream, args: &Cut, cable: &Cable) -> Result<(usize, Stream, Reading), Failure> {
+    let length = match (args.length, args.seconds) {
         (Some(length), _) => length,
         (None, Some(time)) => cable.bytes_in(time).min(stream.bytes.len()),
-        (None, None) => reading.region_mark,
-    }
+        // Where the region mark is not known, it is 0, which is refused.
+        (None, None) => stream.read()?.region_mark,
+    };
+    let cut = Stream::of(stream.cut(length, || causes::of_cut(length, stream, cable))?)?;
+    let left = cut.read()?;
+    Ok((length, cut, left))
 }

@@ -20,7 +20,7 @@ fn the_region_is_exact_at_every_length() {
     for kernel in 0..4 {
         let (mark, total) = two_rectangles(&here, &format!("--kernel {kernel} --levels 5"));
         assert!(mark < total);
-        for length in (mark..=total).step_by(61) {
+        for length in (mark..=total).step_by(97) {
             here.ends(&format!("cut all.stream part --length {length}"), 0, "");
             assert_eq!(here.get("part").len(), length);
             here.ends("show part shown.pgm", 0, "");
@@ -60,7 +60,7 @@ fn any_size() {
 #[test]
 fn noise_never_panics() {
     let here = Folder::new();
-    for seed in 0..25 {
+    for seed in 0..15 {
         let length = noise(seed, 1)[0] as usize;
         here.put("noise", noise(seed + 1000, length));
         let mut stream = mended([&WORKED[..14], &noise(seed, 40)].concat());
