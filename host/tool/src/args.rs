@@ -69,7 +69,7 @@ pub enum Command {
 #[command(after_help = STATUSES, verbatim_doc_comment)]
 #[command(override_usage = "dhiirqobaal encode [OPTIONS] IN OUT\n       dhiirqobaal encode [OPTIONS] --into DIR IN...")]
 pub struct Encode {
-    /// The picture and the stream; with --into, pictures alone
+    /// The picture and the stream, '-' for standard input and output; with --into, pictures alone
     #[arg(value_name = "FILE", required = true)]
     pub files: Vec<PathBuf>,
     /// Write the stream of each picture to DIR, its ending replaced by .stream
@@ -98,7 +98,7 @@ pub struct Encode {
 #[derive(Args)]
 #[command(after_help = STATUSES, verbatim_doc_comment)]
 pub struct Info {
-    /// The streams
+    /// The streams, '-' for standard input
     #[arg(value_name = "STREAM", required = true)]
     pub files: Vec<PathBuf>,
     /// Print one JSON object for each stream, one a line
@@ -118,7 +118,7 @@ pub struct Info {
 #[command(override_usage = "dhiirqobaal cut [OPTIONS] <--length BYTES|--mark|--seconds S> IN OUT
        dhiirqobaal cut [OPTIONS] <--length BYTES|--mark|--seconds S> --into DIR IN...")]
 pub struct Cut {
-    /// The stream and the cut stream; with --into, streams alone
+    /// The stream and the cut stream, '-' for standard input and output; with --into, streams alone
     #[arg(value_name = "FILE", required = true)]
     pub files: Vec<PathBuf>,
     /// Write each cut stream to DIR, under the name of its stream
@@ -147,7 +147,7 @@ pub struct Cut {
     override_usage = "dhiirqobaal show [OPTIONS] STREAM OUT\n       dhiirqobaal show [OPTIONS] --into DIR STREAM..."
 )]
 pub struct Show {
-    /// The stream and the picture; with --into, streams alone
+    /// The stream and the picture, '-' for standard input and output; with --into, streams alone
     #[arg(value_name = "FILE", required = true)]
     pub files: Vec<PathBuf>,
     /// Write the picture of each stream to DIR, its ending replaced by .pgm or .png
@@ -165,9 +165,9 @@ pub struct Show {
 #[derive(Args)]
 #[command(after_help = STATUSES)]
 pub struct Compare {
-    /// The first picture
+    /// The first picture, '-' for standard input
     pub a: PathBuf,
-    /// The second picture
+    /// The second picture, '-' for standard input
     pub b: PathBuf,
     #[command(flatten)]
     pub marked: Marked,
@@ -185,16 +185,18 @@ pub struct Demo {
     pub folder: PathBuf,
 }
 
+// No comment of help: clap would put it in the place of the command's own.
 #[derive(Args)]
 pub struct Marked {
     /// A rectangle, as x,y,w,h or WxH+X+Y; up to 32
     #[arg(long, value_name = "R", allow_hyphen_values = true)]
     pub rect: Vec<Rectangle>,
-    /// A file of rectangles, one a line; what stands behind # is a comment
+    /// A file of rectangles, one a line, behind those of --rect; what stands behind # is a comment
     #[arg(long, value_name = "FILE")]
     pub rects: Option<PathBuf>,
 }
 
+// The same holds here.
 #[derive(Args)]
 pub struct CableArgs {
     /// The cable's bits a second, for all seconds

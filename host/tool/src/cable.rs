@@ -63,8 +63,8 @@ impl Cable {
             10 => " (with a start and a stop bit)",
             _ => "",
         };
-        let speed = words::grouped(self.baud);
-        format!("seconds are at {speed} bits a second and {} bits a byte{remark}", self.bits_per_byte)
+        let speed = words::count(self.baud as usize, "bit");
+        format!("seconds are at {speed} a second and {} bits a byte{remark}", self.bits_per_byte)
     }
 }
 

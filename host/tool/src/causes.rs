@@ -42,9 +42,9 @@ pub fn of_region(number: u64, rectangles: &[Rectangle], width: usize, height: us
 fn bad_rectangle(rectangles: &[Rectangle], width: u64, height: u64) -> Option<String> {
     rectangles.iter().enumerate().find_map(|(i, r)| {
         let fault = if r.width == 0 {
-            "its width is 0".to_string()
+            "it is empty, its width is 0".to_string()
         } else if r.height == 0 {
-            "its height is 0".to_string()
+            "it is empty, its height is 0".to_string()
         } else if r.x.saturating_add(r.width) > width {
             format!("it ends beyond the right edge of the picture, {width} by {height}")
         } else if r.y.saturating_add(r.height) > height {
@@ -167,8 +167,8 @@ fn of_length(stream: &[u8]) -> String {
     }
     let told = u64::from(u32::from_be_bytes([fixed[0], fixed[1], fixed[2], fixed[3]])) + 4;
     format!(
-        "the length field does not fit the length: {there} where the field says {}; it is not a stream, or other \
-         bytes stand behind it",
+        "the length field does not fit the length: {there}, where by that field they are {}; it is not a stream, or \
+         other bytes stand behind it",
         words::grouped(told)
     )
 }

@@ -4,9 +4,10 @@ use crate::failure::Failure;
 use crate::input::is_standard;
 use crate::signals;
 use crate::words;
+use same_file::Handle;
 use std::fs::{self, File, Metadata, OpenOptions, Permissions};
 use std::io::{self, Write};
-use std::os::unix::fs::{fchown, MetadataExt, PermissionsExt};
+use std::os::unix::fs::{fchown, FileTypeExt, MetadataExt, PermissionsExt};
 use std::path::{Path, PathBuf};
 use tempfile::NamedTempFile;
 
@@ -21,9 +22,22 @@ pub fn name(path: &Path) -> String {
     }
 }
 
+/// Whether what is written there goes to standard output, under whatever name, such as /dev/stdout. A device is written
+/// by its own name: nothing can be lost there.
+pub fn is_standard_output(path: &Path) -> bool {
+    let standard = || Handle::stdout()?.as_file().metadata();
+    is_standard(path)
+        || match (fs::metadata(path), standard()) {
+            (Ok(there), Ok(out)) => {
+                !there.file_type().is_char_device() && (there.dev(), there.ino()) == (out.dev(), out.ino())
+            }
+            _ => false,
+        }
+}
+
 /// Writes a whole file, or to standard output. Where it fails, or is interrupted, the file is as it was.
 pub fn write(path: &Path, bytes: &[u8]) -> Result<(), Failure> {
-    let outcome = match is_standard(path) {
+    let outcome = match is_standard_output(path) {
         true => to_standard_output(bytes),
         false => to_file(path, bytes),
     };

@@ -67,9 +67,10 @@ fn text(found: &Differences) -> String {
         None if found.compared == 0 => "there is no rectangle: nothing was compared".to_string(),
         None => format!("no difference in {}", words::count(found.compared, "sample")),
         Some(place) => format!(
-            "{} of {} differ; the first one at x {} y {}: {} and {}; largest difference {}",
+            "{} of {} {}; the first one at x {} y {}: {} and {}; largest difference {}",
             words::size(found.count),
             words::count(found.compared, "sample"),
+            if found.count == 1 { "differs" } else { "differ" },
             place.x,
             place.y,
             place.left,

@@ -32,7 +32,7 @@ fn each<T>(items: &[T], mut work: impl FnMut(&T) -> Result<Status, Failure>) -> 
 
 /// What may be said where a command has these outputs.
 fn messages(quiet: bool, jobs: &[Job]) -> Messages {
-    Messages { quiet, data: jobs.iter().any(|job| input::is_standard(&job.output)) }
+    Messages { quiet, data: jobs.iter().any(|job| output::is_standard_output(&job.output)) }
 }
 
 /// A file's name with another ending.

@@ -97,5 +97,9 @@ fn a_file_longer_than_its_field_says_is_refused() {
         let status = if line.starts_with("compare") { 4 } else { 3 };
         here.ends(line, status, "long: ");
     }
-    here.ends("info long", 3, "refused 12: the length field does not fit the length: 25 bytes where the field says 24");
+    here.ends(
+        "info long",
+        3,
+        "refused 12: the length field does not fit the length: 25 bytes, where by that field they are 24",
+    );
 }

@@ -39,7 +39,7 @@ fn differences_are_found() {
     here.put("a.pgm", "P2 3 2 9  1 2 3  4 5 6 ");
     here.put("b.pgm", "P2 3 2 9  1 2 3  4 9 5 ");
     here.ends("compare a.pgm b.pgm", 1, "2 of 6 samples differ; the first one at x 1 y 1: 5 and 9");
-    here.ends("compare a.pgm b.pgm --rect 2,0,1,2", 1, "1 of 2 samples differ; the first one at x 2 y 1: 6 and 5");
+    here.ends("compare a.pgm b.pgm --rect 2,0,1,2", 1, "1 of 2 samples differs; the first one at x 2 y 1: 6 and 5");
     here.ends("compare a.pgm b.pgm --rect 0,0,1,2 --rect 0,0,3,1", 0, "no difference in 4 samples");
     here.ends("compare a.pgm b.pgm --rect 0,0,4,1", 3, "refused 8");
 }

@@ -17,8 +17,8 @@ fn the_rectangle() {
     here.put("in.pgm", noise_picture(8, 6));
     let encode = "encode in.pgm out --rect 0,0,8,6";
     let cases = [
-        ("1,2,0,4", "rectangle 2 of 2, 1,2,0,4: its width is 0"),
-        ("1,2,3,0", "rectangle 2 of 2, 1,2,3,0: its height is 0"),
+        ("1,2,0,4", "rectangle 2 of 2, 1,2,0,4: it is empty, its width is 0"),
+        ("1,2,3,0", "rectangle 2 of 2, 1,2,3,0: it is empty, its height is 0"),
         ("5,0,4,1", "rectangle 2 of 2, 5,0,4,1: it ends beyond the right edge of the picture, 8 by 6"),
         ("1x7+0+0", "rectangle 2 of 2, 0,0,1,7: it ends beyond the lower edge of the picture, 8 by 6"),
         ("18446744073709551615,0,18446744073709551615,1", "18446744073709551615,0,18446744073709551615,1: it ends"),
@@ -135,7 +135,7 @@ fn the_number_in_a_stream() {
         ),
         (with(13, 23), "bad: refused 14: the stream's plane count T is above 22 (byte 13 is 23)"),
         (mended([&WORKED[..], &[0]].concat()), "bad: refused 16: behind the complete body"),
-        (with(3, 0x13), "24 bytes where the field says 23"),
+        (with(3, 0x13), "24 bytes, where by that field they are 23"),
     ] {
         here.put("bad", stream);
         for line in ["info bad", "show bad out", "cut bad out --length 24"] {

@@ -314,6 +314,24 @@ fn standard_input_and_output_are_a_dash() {
     here.ends("show --into . -", 2, "--into takes no '-'");
 }
 
+/// Standard output under a name of the system's: what stands in front of the data stays, and no report behind it.
+#[test]
+fn standard_output_under_another_name() {
+    let here = Folder::new();
+    here.put("s", WORKED);
+    let picture = b"P5\n2 2\n255\n\x0a\x07\x04\x04";
+    let mut command = here.command("sh");
+    command.args([
+        "-c",
+        "{ printf first; \"$0\" show s /dev/stdout; } > file; \"$0\" show s /dev/stdout",
+        program_path(),
+    ]);
+    let answer = finish(command, b"");
+    assert_eq!((answer.status, answer.out.as_slice()), (0, &picture[..]));
+    assert_eq!(here.get("file"), [b"first", &picture[..]].concat());
+    assert_eq!(answer.err.matches("/dev/stdout: shown from s").count(), 2);
+}
+
 /// A name that begins with a dash stands behind two of them.
 #[test]
 fn a_file_named_dash() {

@@ -51,7 +51,7 @@ fn of_a_comparison() {
     here.put("unmarked", UNMARKED);
     here.put("d.pgm", "P2 2 2 9  1 2 3 4 ");
     here.ends("compare a.pgm a.pgm", 0, "no difference in 2 samples");
-    here.ends("compare a.pgm b.pgm", 1, "1 of 2 samples differ");
+    here.ends("compare a.pgm b.pgm", 1, "1 of 2 samples differs");
     here.ends("compare a.pgm b.pgm --rect 0,0,1,1", 0, "no difference in 1 sample\n");
     here.ends("compare a.pgm b.pgm --rects none", 1, "nothing was compared");
     here.ends("compare d.pgm d.pgm --stream unmarked", 1, "nothing was compared");
