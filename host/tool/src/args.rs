@@ -154,7 +154,7 @@ pub struct Show {
     #[arg(long, value_name = "DIR")]
     pub into: Option<PathBuf>,
     /// The picture's format [default: by the ending of OUT, else pgm]
-    #[arg(long, value_enum)]
+    #[arg(long, value_enum, ignore_case = true)]
     pub format: Option<FormatName>,
     /// Draw a frame around every exact rectangle, one sample outside it
     #[arg(long)]

@@ -67,15 +67,17 @@ pub fn of_picture(number: u64, setting: &Setting, picture: &Picture, given: Opti
             picture.depth(),
             taken_as_it_is(picture)
         ),
-        (4, _) => format!(
-            "{words}; 'pamscale -xysize 4096 4096 IN > OUT.pgm' (netpbm) makes it smaller, 'pamcut' takes a part of it; \
-             {OF_PNG}"
-        ),
+        (3, Some(_)) if picture.depth() <= MAX_DEPTH => {
+            format!("{words}; without --depth it is the picture's own, {}", picture.depth())
+        }
+        (4, _) => format!("{words}; {MAKE_IT_SMALLER}; {OF_PNG}"),
         _ => words,
     }
 }
 
 const MAKE_IT_FIT: &str = "'pamdepth 1023 IN > OUT.pgm' (netpbm) makes it fit";
+const MAKE_IT_SMALLER: &str =
+    "'pamscale -xysize 4096 4096 IN > OUT.pgm' (netpbm) makes it smaller, 'pamcut' takes a part of it";
 const OF_PNG: &str = "of a PNG file 'pngtopnm' makes the IN";
 
 fn largest(picture: &Picture) -> u16 {

@@ -50,8 +50,12 @@ fn one(job: &Job, choice: &Choice, cable: &Cable, messages: &Messages) -> Result
             words::grouped(causes::top(depth))
         ));
     }
+    let rectangles = match choice.rectangles.len() {
+        0 => "no rectangle is marked".to_string(),
+        count => words::count(count, "rectangle"),
+    };
     messages.report(&format!(
-        "{}: {}; region mark {}; {} of {} marked\n{}",
+        "{}: {}; {rectangles}; region mark {}; {} of {} marked\n{}",
         output::name(&job.output),
         cable.length(written.bytes.len()),
         cable.length(written.region_mark),

@@ -1,4 +1,4 @@
-//! Conventions: help and version, options in both forms, quiet, kernels by name, rectangles in both forms, several files.
+//! Conventions: help and version, options in both forms, quiet, kernels by name, rectangles, several files.
 
 use crate::{noise_picture, told, two_rectangles, Folder, UNMARKED, WORKED};
 use serde_json::json;

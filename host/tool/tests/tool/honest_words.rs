@@ -44,10 +44,11 @@ fn one_thing_is_singular() {
     here.put("part", &WORKED[..23]);
     here.ends("show part out.pgm", 1, "not every bit of the rectangle arrived: it is not exact");
     here.put("dot.pgm", "P2 1 1 9 0 ");
+    here.ends("encode dot.pgm dot", 0, "14 bytes, 0.001 s; no rectangle is marked; region mark 14 bytes");
     here.ends("encode dot.pgm dot", 0, "0 of 1 coefficient marked");
     here.ends("info dot", 0, "body          0 bytes");
     here.ends("compare dot.pgm dot.pgm", 0, "no difference in 1 sample\n");
-    here.ends("encode dot.pgm dot2 --rect 0,0,1,1", 0, "22 bytes");
+    here.ends("encode dot.pgm dot2 --rect 0,0,1,1", 0, "22 bytes, 0.002 s; 1 rectangle; region mark 22 bytes");
 }
 
 #[test]

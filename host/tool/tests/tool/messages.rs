@@ -67,7 +67,8 @@ fn the_depth() {
     let answer = here.run("encode in.pgm out2");
     assert!(answer.err.contains("has 11 bits") && !answer.err.contains("--depth 10"), "{}", answer.err);
     refused(&here, "encode in.pgm out2 --depth 77", &["refused 3: the depth D is not 1 to 10 (it is 77)"]);
-    refused(&here, "encode in.pgm out2 --depth 0", &["(it is 0)"]);
+    here.put("in.pgm", "P2 1 2 255  7 8 ");
+    refused(&here, "encode in.pgm out2 --depth 0", &["(it is 0); without --depth it is the picture's own, 8"]);
 }
 
 #[test]

@@ -26,6 +26,7 @@ fn the_format_is_that_of_the_ending_or_of_the_option() {
         ("show s a", b"P5\n"),
         ("show s a.png --format pgm", b"P5\n"),
         ("show s a.pgm --format=png", b"\x89PNG"),
+        ("show s a.pgm --format PNG", b"\x89PNG"),
         ("show s a.pgm --format plain", b"P2\n2 2\n255\n10 7"),
         ("show s - --format png", b"\x89PNG"),
         ("show s -", b"P5\n"),
