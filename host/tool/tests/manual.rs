@@ -2,7 +2,8 @@
 //! help texts and `--version` print.
 
 use std::collections::BTreeSet;
-use std::process::Command;
+use std::io::Write;
+use std::process::{Command, Stdio};
 
 type Words = BTreeSet<String>;
 
@@ -150,6 +151,29 @@ fn every_refusal_in_its_order() {
     let found: Vec<u8> =
         tags(&section(&page, "REFUSALS")).iter().filter_map(|tag| tag.strip_prefix(".B ")?.parse().ok()).collect();
     assert_eq!(found, (1..=16).collect::<Vec<u8>>());
+}
+
+/// The names in front of a colon in the JSON object of a stream.
+fn members() -> Words {
+    let mut program = Command::new(env!("CARGO_BIN_EXE_dhiirqobaal"));
+    let program = program.args(["info", "--json", "-"]).stdin(Stdio::piped()).stdout(Stdio::piped());
+    let mut running = program.spawn().unwrap();
+    // The worked stream of docs/FORMAT.md, with one rectangle.
+    let stream = [0, 0, 0, 0x14, 1, 0, 1, 8, 0, 2, 0, 2, 1, 3, 0, 0, 0, 0, 0, 1, 0, 1, 0x92, 0x49];
+    running.stdin.take().unwrap().write_all(&stream).unwrap();
+    let text = String::from_utf8(running.wait_with_output().unwrap().stdout).unwrap();
+    let parts: Vec<&str> = text.split('"').collect();
+    parts.windows(2).filter(|pair| pair[1].starts_with(':')).map(|pair| pair[0].to_string()).collect()
+}
+
+#[test]
+fn every_member_of_the_json_object_and_no_other() {
+    let page = page();
+    let described = subsection(&page, "info").into_iter().skip_while(|line| *line != ".B --json").skip(1);
+    let lines = described.take_while(|line| *line != ".TP");
+    let named = lines.filter_map(|line| line.strip_prefix(".I ").or_else(|| line.strip_prefix(".IR ")));
+    let found: Words = named.filter_map(|name| name.split(' ').next()).map(str::to_string).collect();
+    assert_eq!(found, members());
 }
 
 /// The rows of the table of kernels and levels end in three figures with a point.
