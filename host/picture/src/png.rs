@@ -126,8 +126,8 @@ fn widened(sample: u16, few: u32, bits: u32) -> u16 {
     (wide | u32::from(sample) >> (few - room)) as u16
 }
 
-/// A sample of `few` bits as one of `bits`: in proportion, rounded, the other way that PNG's specification gives; others
-/// write such files.
+/// A sample of `few` bits as one of `bits`: in proportion, rounded, the other way that PNG's specification gives.
+/// Other programs write such files.
 fn rounded(sample: u16, few: u32, bits: u32) -> u16 {
     let (from, to) = ((1u64 << few) - 1, (1u64 << bits) - 1);
     ((2 * u64::from(sample) * to + from) / (2 * from)) as u16
