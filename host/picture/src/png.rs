@@ -9,7 +9,7 @@ use ::png::{BitDepth, ColorType, Decoder, DecodingError, Encoder, EncodingError,
 /// More samples than this are not read, so that a header alone cannot ask for all memory.
 const MOST_SAMPLES: u64 = 1 << 28;
 
-/// Deflate makes at most so many bytes of one.
+/// The bytes that deflate makes of one, at most.
 const MOST_FROM_A_BYTE: u64 = 1032;
 
 /// The largest row within `MOST_SAMPLES`, in bytes.
@@ -17,16 +17,17 @@ const LIMITS: Limits = Limits { bytes: 2 << 28 };
 
 const DAMAGED: &str =
     "the PNG file is damaged: its header, its compressed data or a check sum is not right; copy or make the file again";
-const COLOUR: &str = "the PNG picture has colours or a palette; colour waits for a later version: \
-                      'pngtopnm IN | ppmtopgm > OUT.pgm' (netpbm) makes it grey";
-const ALPHA: &str = "the PNG picture has an alpha channel, and no transparency is carried: \
-                     'pngtopnm -mix IN > OUT.pgm' (netpbm) mixes it with its background";
+const COLOUR: &str =
+    "the PNG picture has colours or a palette; colour waits for a later version: 'pngtopnm IN | ppmtopgm > OUT.pgm' \
+     (netpbm) makes it grey";
+const ALPHA: &str =
+    "the PNG picture has an alpha channel, and no transparency is carried: 'pngtopnm -mix IN > OUT.pgm' (netpbm) mixes \
+     it with its background";
 const ALPHA_IN_COLOUR: &str =
-    "the PNG picture has colours and an alpha channel; colour waits for a later version, and no \
-                               transparency is carried: 'pngtopnm -mix IN | ppmtopgm > OUT.pgm' (netpbm) makes it grey, \
-                               mixed with its background";
+    "the PNG picture has colours and an alpha channel; colour waits for a later version, and no transparency is \
+     carried: 'pngtopnm -mix IN | ppmtopgm > OUT.pgm' (netpbm) makes it grey, mixed with its background";
 const TRANSPARENT: &str = "the PNG picture has a transparent value (tRNS), and no transparency is carried: \
-                           'pngtopnm -mix IN | ppmtopgm > OUT.pgm' (netpbm) mixes it with its background";
+     'pngtopnm -mix IN | ppmtopgm > OUT.pgm' (netpbm) mixes it with its background";
 
 /// Takes a file that begins with PNG's signature.
 pub fn parse(file: &[u8]) -> Result<Picture, String> {
@@ -125,8 +126,8 @@ fn widened(sample: u16, few: u32, bits: u32) -> u16 {
     (wide | u32::from(sample) >> (few - room)) as u16
 }
 
-/// A sample of `few` bits as one of `bits`: in proportion, rounded, the other way that PNG's specification gives; others
-/// write such files.
+/// A sample of `few` bits as one of `bits`: in proportion, rounded, the other way that PNG's specification gives.
+/// Other programs write such files.
 fn rounded(sample: u16, few: u32, bits: u32) -> u16 {
     let (from, to) = ((1u64 << few) - 1, (1u64 << bits) - 1);
     ((2 * u64::from(sample) * to + from) / (2 * from)) as u16
