@@ -170,7 +170,7 @@ fn of_length(stream: &[u8]) -> String {
     let told = u64::from(u32::from_be_bytes([fixed[0], fixed[1], fixed[2], fixed[3]])) + 4;
     format!(
         "the length field does not fit the length: {there}, where by that field they are {}; it is not a stream, or \
-         other bytes stand behind it",
+         other bytes stand behind it, which 'head -c {told} IN > OUT' takes off",
         words::grouped(told)
     )
 }

@@ -87,7 +87,10 @@ fn folder_of(path: &Path) -> &Path {
 fn replace(target: &Path, bytes: &[u8], old: Option<&Metadata>) -> io::Result<()> {
     let mut file = {
         let mut held = signals::temporary();
-        let file = tempfile::Builder::new().prefix(".dhiirqobaal-").tempfile_in(folder_of(target))?;
+        let folder = folder_of(target);
+        let file = tempfile::Builder::new().prefix(".dhiirqobaal-").tempfile_in(folder).map_err(|error| {
+            io::Error::other(format!("no file can be made in {}: {}", folder.display(), words::reason(&error)))
+        })?;
         *held = Some(file.path().to_path_buf());
         file
     };

@@ -168,7 +168,7 @@ fn files_that_cannot_be_used() {
         ("encode folder out", "folder: is a directory\n"),
         ("encode empty out", "empty: the file is empty"),
         ("encode in.pgm folder", "folder: is a directory\n"),
-        ("encode in.pgm nowhere/out", "nowhere/out: no such file or directory\n"),
+        ("encode in.pgm nowhere/out", "nowhere/out: no file can be made in nowhere: no such file or directory\n"),
         ("encode in.pgm in.pgm/out", "in.pgm/out: not a directory\n"),
         ("encode in.pgm out --rects missing", "missing: no such file"),
         ("encode --into nowhere in.pgm", "nowhere: there is no such folder"),

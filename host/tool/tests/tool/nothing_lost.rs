@@ -113,7 +113,11 @@ fn an_ignored_signal_stays_ignored() {
 fn a_folder_that_does_not_exist() {
     let here = Folder::new();
     here.put("s", WORKED);
-    here.ends("show s nowhere/out.pgm", 4, "nowhere/out.pgm: no such file or directory");
+    here.ends(
+        "show s nowhere/out.pgm",
+        4,
+        "nowhere/out.pgm: no file can be made in nowhere: no such file or directory",
+    );
     assert_eq!(here.names(), ["s"]);
 }
 

@@ -68,7 +68,7 @@ fn of_an_encoder() {
     here.ends("encode a.pgm out --levels 6", 3, "refused 2");
     here.ends("encode none out", 4, "none: no such file or directory");
     here.ends("encode out out2", 4, "out: ");
-    here.ends("encode a.pgm none/out", 4, "none/out: no such file or directory");
+    here.ends("encode a.pgm none/out", 4, "none/out: no file can be made in none: no such file or directory");
     here.ends("encode a.pgm", 2, "two files");
 }
 
