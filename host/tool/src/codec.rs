@@ -101,12 +101,13 @@ pub fn region(rectangles: &[Rectangle], width: usize, height: usize) -> Result<V
     Ok(region)
 }
 
-/// The coefficients of a picture, under a setting that was not refused.
-pub fn transform(setting: &Setting, samples: &[u16]) -> Result<Vec<i32>, Failure> {
+/// The coefficients of a picture, under a setting that was not refused. `large` names the sample that is above 2^D - 1,
+/// where one is: that is refused (6).
+pub fn transform(setting: &Setting, samples: &[u16], large: Option<String>) -> Result<Vec<i32>, Failure> {
     let mut plane = zeros::<i32>(setting.area())?;
     let Setting { kernel, levels, depth, width, height, .. } = *setting;
     let number = bindings::transform(kernel, levels, depth, width, height, samples, &mut plane);
-    accepted(number, || causes::of_setting(number, setting))?;
+    accepted(number, || large.unwrap_or_else(|| causes::of_setting(number, setting)))?;
     Ok(plane)
 }
 

@@ -1,4 +1,4 @@
-//! The files of a command: which output belongs to which input, and what is refused before any of them is opened.
+//! The files of a command: which output belongs to which input, and which names are wrong usage before any work.
 
 use crate::failure::Failure;
 use crate::input::{self, is_standard};

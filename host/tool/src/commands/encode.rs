@@ -80,11 +80,11 @@ pub fn written(picture: &Picture, choice: &Choice, messages: &Messages) -> Resul
     if number != 0 {
         return Err(Failure::refused(number, &causes::of_picture(number, &setting, picture, choice.depth)));
     }
-    if let Some(cause) = causes::large_sample(picture, setting.depth) {
-        return Err(Failure::refused(6, &cause));
+    let large = causes::large_sample(picture, setting.depth);
+    if large.is_none() {
+        messages.progress(picture.samples.len(), "transforming");
     }
-    messages.progress(picture.samples.len(), "transforming");
-    let plane = codec::transform(&setting, &picture.samples)?;
+    let plane = codec::transform(&setting, &picture.samples, large)?;
     messages.progress(picture.samples.len(), "writing the stream");
     codec::write(&setting, &plane)
 }

@@ -2,7 +2,9 @@
 
 use crate::{noise_picture, told, two_rectangles, Folder, UNMARKED, WORKED};
 use serde_json::json;
+use std::ffi::OsStr;
 use std::fs;
+use std::os::unix::ffi::OsStrExt;
 
 const COMMANDS: [&str; 6] = ["encode", "info", "cut", "show", "compare", "demo"];
 
@@ -235,6 +237,22 @@ fn frames_around_exact_rectangles() {
     here.ends("show part part.pgm", 1, "");
     here.ends("show part framed.pgm --frames", 1, "part: not every marked bit arrived, so that no frame is drawn");
     assert_eq!(here.get("part.pgm"), here.get("framed.pgm"));
+}
+
+/// Blanks, and bytes that are no text.
+#[test]
+fn files_of_any_name() {
+    let here = Folder::new();
+    let name = OsStr::from_bytes(b"a b\xff.stream");
+    fs::write(here.path(".").join(name), WORKED).unwrap();
+    fs::create_dir(here.path("out")).unwrap();
+    let status = here.program("-q show --into out").arg(name).status().unwrap();
+    assert_eq!(status.code(), Some(0));
+    let shown = here.path("out").join(OsStr::from_bytes(b"a b\xff.pgm"));
+    assert_eq!(fs::read(shown).unwrap(), b"P5\n2 2\n255\n\x0a\x07\x04\x04");
+    let answer = here.program("info --json").arg(name).output().unwrap();
+    let told: serde_json::Value = serde_json::from_slice(&answer.stdout).unwrap();
+    assert_eq!(told["file"], "a b\u{fffd}.stream");
 }
 
 #[test]
