@@ -28,44 +28,46 @@ fn help_and_version_on_every_command() {
     }
 }
 
+const WRONG: [&str; 31] = [
+    "",
+    "decode in.pgm out",
+    "encode",
+    "encode in.pgm",
+    "encode in.pgm out third",
+    "encode in.pgm out --unknown",
+    "encode in.pgm out --kernel five",
+    "encode in.pgm out --kernel",
+    "encode in.pgm out --levels 1 --levels 2",
+    "encode in.pgm out --levels three",
+    "encode in.pgm out --rect 1,2,3",
+    "encode in.pgm out --rect -1,2,3,4",
+    "encode in.pgm out --baud 0",
+    "encode in.pgm out --baud 1000000000001",
+    "encode in.pgm out --bits-per-byte 0",
+    "encode in.pgm out --bits-per-byte 101",
+    "info",
+    "info s --rect 1,2,3,4",
+    "cut s out",
+    "cut s out --length 24 --mark",
+    "cut s out --length 24 --seconds 1",
+    "cut s out --length -5",
+    "cut s out --length 18446744073709551616",
+    "cut s out --seconds 1e3",
+    "cut s out --seconds 1.0000000001",
+    "show s",
+    "show s out --format jpeg",
+    "compare in.pgm",
+    "compare in.pgm in.pgm --stream s --rect 0,0,1,1",
+    "compare in.pgm in.pgm --stream s --rects s",
+    "demo a b",
+];
+
 #[test]
 fn wrong_usage() {
     let here = Folder::new();
     here.put("in.pgm", noise_picture(8, 8));
     here.put("s", WORKED);
-    for line in [
-        "",
-        "decode in.pgm out",
-        "encode",
-        "encode in.pgm",
-        "encode in.pgm out third",
-        "encode in.pgm out --unknown",
-        "encode in.pgm out --kernel five",
-        "encode in.pgm out --kernel",
-        "encode in.pgm out --levels 1 --levels 2",
-        "encode in.pgm out --levels three",
-        "encode in.pgm out --rect 1,2,3",
-        "encode in.pgm out --rect -1,2,3,4",
-        "encode in.pgm out --baud 0",
-        "encode in.pgm out --baud 1000000000001",
-        "encode in.pgm out --bits-per-byte 0",
-        "encode in.pgm out --bits-per-byte 101",
-        "info",
-        "info s --rect 1,2,3,4",
-        "cut s out",
-        "cut s out --length 24 --mark",
-        "cut s out --length 24 --seconds 1",
-        "cut s out --length -5",
-        "cut s out --length 18446744073709551616",
-        "cut s out --seconds 1e3",
-        "cut s out --seconds 1.0000000001",
-        "show s",
-        "show s out --format jpeg",
-        "compare in.pgm",
-        "compare in.pgm in.pgm --stream s --rect 0,0,1,1",
-        "compare in.pgm in.pgm --stream s --rects s",
-        "demo a b",
-    ] {
+    for line in WRONG {
         let answer = here.run(line);
         assert_eq!(answer.status, 2, "{line}: {}", answer.said());
         assert!(answer.out.is_empty() && answer.err.contains("--help") || line.is_empty(), "{line}: {}", answer.err);
