@@ -1,6 +1,9 @@
 //! Grey pictures in PGM and PNG files, sample by sample: no sample is scaled or rounded on its way in or out.
 
+mod other;
 mod pgm;
+mod png;
+mod png_chunks;
 
 use std::path::Path;
 
@@ -19,6 +22,37 @@ impl Picture {
     pub fn depth(&self) -> usize {
         (u16::BITS - self.top.leading_zeros()) as usize
     }
+
+    /// The largest value of that many bits.
+    fn full_top(&self) -> u16 {
+        u16::MAX >> self.top.leading_zeros()
+    }
+
+    /// Names the first sample above the maximum value, if there is one.
+    fn check_range(&self) -> Result<(), String> {
+        let Picture { width, top, .. } = *self;
+        match self.samples.iter().position(|&s| s > top) {
+            None => Ok(()),
+            Some(i) => Err(format!(
+                "the sample in column {}, row {} (counted from 0) is {}, above the maximum value {top}",
+                i % width,
+                i / width,
+                self.samples[i],
+            )),
+        }
+    }
+
+    /// Its fields are open to all, so that they are tested before a file is made of them.
+    fn check(&self) -> Result<(), String> {
+        let Picture { width, height, top, .. } = *self;
+        if width == 0 || height == 0 || top == 0 {
+            return Err("the width, the height or the maximum value is 0".to_string());
+        }
+        if width.checked_mul(height) != Some(self.samples.len()) {
+            return Err(format!("there are {} samples where {width} by {height} should be", self.samples.len()));
+        }
+        self.check_range()
+    }
 }
 
 /// The formats that a picture is written in.
@@ -31,23 +65,114 @@ pub enum Format {
 
 impl Format {
     /// The format that a file's ending names: .png, .pgm or .pnm, in either case of letters.
-    pub fn of_name(_path: &Path) -> Option<Format> {
-        Some(Format::Pgm)
+    pub fn of_name(path: &Path) -> Option<Format> {
+        match path.extension()?.to_ascii_lowercase().to_str()? {
+            "png" => Some(Format::Png),
+            "pgm" | "pnm" => Some(Format::Pgm),
+            _ => None,
+        }
     }
 }
 
 /// Takes the bytes of a picture's file; what it begins with decides which format it is in. The message says what is
 /// wrong and what to do, without the file's name.
 pub fn parse(file: &[u8]) -> Result<Picture, String> {
-    pgm::parse(file)
+    if file.starts_with(png_chunks::SIGNATURE) {
+        png::parse(file)
+    } else if file.starts_with(b"P5") || file.starts_with(b"P2") {
+        pgm::parse(file)
+    } else {
+        Err(other::message(file))
+    }
 }
 
 /// The bytes of a picture's file.
-pub fn format(picture: &Picture, _format: Format) -> Result<Vec<u8>, String> {
-    Ok(pgm::format(picture))
+pub fn format(picture: &Picture, format: Format) -> Result<Vec<u8>, String> {
+    picture.check()?;
+    match format {
+        Format::Pgm => Ok(pgm::format(picture)),
+        Format::PlainPgm => Ok(pgm::format_plain(picture)),
+        Format::Png => png::format(picture),
+    }
 }
 
 /// What a picture's file in this format cannot say of it, if anything, for the user to be told.
-pub fn lost(_picture: &Picture, _format: Format) -> Option<String> {
-    None
+pub fn lost(picture: &Picture, format: Format) -> Option<String> {
+    let full = picture.full_top();
+    if format != Format::Png || picture.top == full {
+        return None;
+    }
+    Some(format!(
+        "PNG has no maximum value: the samples are kept, but whoever reads the file takes {full} for the maximum value \
+         in place of {}; a PGM file keeps it",
+        picture.top
+    ))
+}
+
+#[cfg(test)]
+mod tests {
+    use super::*;
+
+    fn picture(width: usize, height: usize, top: u16, samples: Vec<u16>) -> Picture {
+        Picture { width, height, top, samples }
+    }
+
+    #[test]
+    fn depth_of_the_maximum_value() {
+        let depth = |top| picture(1, 1, top, vec![0]).depth();
+        assert_eq!([1, 2, 3, 4, 200, 255, 256, 1000, 1023, 1024].map(depth), [1, 2, 2, 3, 8, 8, 9, 10, 10, 11]);
+        assert_eq!(depth(65535), 16);
+    }
+
+    #[test]
+    fn formats_by_name() {
+        let format = |name: &str| Format::of_name(Path::new(name));
+        assert_eq!(["a.png", "b/a.PNG", "a.b.Png"].map(format), [Some(Format::Png); 3]);
+        assert_eq!(["a.pgm", "a.PNM", "-.pgm"].map(format), [Some(Format::Pgm); 3]);
+        assert_eq!(["a", "-", "png", ".png", "a.png.gz", "a.jpg", "a."].map(format), [None; 7]);
+    }
+
+    #[test]
+    fn the_first_bytes_decide() {
+        let small = picture(2, 1, 255, vec![3, 4]);
+        for kind in [Format::Pgm, Format::PlainPgm, Format::Png] {
+            let file = format(&small, kind).unwrap();
+            assert_eq!(parse(&file).unwrap(), small, "{kind:?}");
+        }
+        assert!(format(&small, Format::Pgm).unwrap().starts_with(b"P5"));
+        assert!(format(&small, Format::PlainPgm).unwrap().starts_with(b"P2"));
+        assert!(format(&small, Format::Png).unwrap().starts_with(b"\x89PNG"));
+    }
+
+    #[test]
+    fn the_maximum_value_alone_is_lost_and_in_png_alone() {
+        for top in [1, 3, 255, 1023, 65535] {
+            assert_eq!(lost(&picture(1, 1, top, vec![0]), Format::Png), None);
+        }
+        for (top, full) in [(2, "takes 3 "), (200, "takes 255 "), (1000, "takes 1023 "), (65534, "takes 65535 ")] {
+            let odd = picture(1, 1, top, vec![top]);
+            assert_eq!(lost(&odd, Format::Pgm), None);
+            assert_eq!(lost(&odd, Format::PlainPgm), None);
+            let told = lost(&odd, Format::Png).unwrap();
+            assert!(told.contains(full) && told.contains(&format!("in place of {top};")), "{told}");
+            assert_eq!(parse(&format(&odd, Format::Png).unwrap()).unwrap().samples, [top]);
+        }
+    }
+
+    #[test]
+    fn no_file_is_made_of_a_picture_that_is_none() {
+        let wrong = [
+            picture(0, 1, 255, vec![]),
+            picture(1, 0, 255, vec![]),
+            picture(1, 1, 0, vec![0]),
+            picture(2, 2, 255, vec![0; 3]),
+            picture(usize::MAX, 2, 255, vec![0; 3]),
+            picture(2, 1, 200, vec![0, 201]),
+        ];
+        for picture in wrong {
+            for kind in [Format::Pgm, Format::PlainPgm, Format::Png] {
+                assert!(format(&picture, kind).is_err(), "{picture:?}");
+            }
+        }
+    }
 }

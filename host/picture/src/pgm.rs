@@ -1,101 +1,110 @@
-//! PGM pictures: P5 (binary) and P2 (plain), maximum value up to 65,535.
+//! PGM pictures, raw (P5) and plain (P2), as netpbm reads them: maximum value 1 to 65,535, and every sample as it
+//! stands. A library would scale the samples by the maximum value, so they are read here.
 
 use crate::Picture;
+
+/// The longest line of a plain file.
+const LINE: usize = 70;
 
 /// The part of a file that has not been read yet.
 struct Input<'a> {
     rest: &'a [u8],
 }
 
+/// Why no number could be read.
+enum Fault {
+    End,
+    NotNumber,
+    TooLarge,
+}
+
+impl Fault {
+    fn words(&self, what: &str) -> String {
+        match self {
+            Fault::End => format!("the picture is cut: the file ends before {what} and the white space behind it"),
+            Fault::NotNumber => format!("{what} is not a number with white space behind it"),
+            Fault::TooLarge => format!("{what} is too large, above {}", i32::MAX),
+        }
+    }
+}
+
 impl Input<'_> {
-    fn next(&mut self) -> Option<u8> {
+    fn byte(&mut self) -> Option<u8> {
         let (&first, rest) = self.rest.split_first()?;
         self.rest = rest;
         Some(first)
     }
 
-    /// Skips white space and comments; a comment goes from # to the end of its line.
-    fn skip_blank(&mut self) {
-        while let Some(&c) = self.rest.first() {
-            if c == b'#' {
-                self.skip_comment();
-            } else if is_blank(c) {
-                self.next();
-            } else {
-                return;
+    /// The next byte outside comments. A comment goes from # to the end of its line, and counts as that line end.
+    fn next(&mut self) -> Option<u8> {
+        let mut byte = self.byte()?;
+        if byte == b'#' {
+            while byte != b'\n' && byte != b'\r' {
+                byte = self.byte()?;
             }
         }
+        Some(byte)
     }
 
-    fn skip_comment(&mut self) {
-        while let Some(c) = self.next() {
-            if c == b'\n' || c == b'\r' {
-                return;
-            }
+    /// The next decimal number and the one byte of white space behind it. Without that byte the number may be the
+    /// beginning of a longer one, in a file that was cut.
+    fn number(&mut self) -> Result<u32, Fault> {
+        let mut byte = self.next().ok_or(Fault::End)?;
+        while is_blank(byte) {
+            byte = self.next().ok_or(Fault::End)?;
         }
-    }
-
-    /// The next decimal number, which ends at white space, a comment or the end of the file.
-    fn number(&mut self, what: &str) -> Result<u64, String> {
-        self.skip_blank();
-        let digits = self.rest.iter().take_while(|c| c.is_ascii_digit()).count();
-        let (word, rest) = self.rest.split_at(digits);
-        if word.is_empty() {
-            return Err(match rest.first() {
-                None => format!("the file ends where {what} should stand"),
-                Some(_) => format!("{what} is not a number"),
-            });
+        if !byte.is_ascii_digit() {
+            return Err(Fault::NotNumber);
         }
-        if rest.first().is_some_and(|&c| !is_blank(c) && c != b'#') {
-            return Err(format!("{what} is not a number"));
+        let mut value = 0i32;
+        while byte.is_ascii_digit() {
+            let digit = i32::from(byte - b'0');
+            value = value.checked_mul(10).and_then(|v| v.checked_add(digit)).ok_or(Fault::TooLarge)?;
+            byte = self.next().ok_or(Fault::End)?;
         }
-        self.rest = rest;
-        decimal(word).ok_or_else(|| format!("{what} is too large"))
+        if is_blank(byte) {
+            Ok(value.unsigned_abs())
+        } else {
+            Err(Fault::NotNumber)
+        }
     }
 }
 
-fn is_blank(c: u8) -> bool {
-    matches!(c, b' ' | b'\t' | b'\n' | b'\r' | 0x0b | 0x0c)
-}
-
-/// The value of decimal digits, below 2^32, so that a product of two still fits.
-fn decimal(digits: &[u8]) -> Option<u64> {
-    let mut value = 0u32;
-    for digit in digits {
-        value = value.checked_mul(10)?.checked_add(u32::from(digit - b'0'))?;
-    }
-    Some(u64::from(value))
+fn is_blank(byte: u8) -> bool {
+    matches!(byte, b' ' | b'\t' | b'\n' | b'\r')
 }
 
 /// What stands in front of the samples.
 struct Header {
-    width: u64,
-    height: u64,
+    width: u32,
+    height: u32,
     top: u16,
 }
 
-/// Takes a whole PGM file.
+impl Header {
+    fn count(&self) -> u64 {
+        u64::from(self.width) * u64::from(self.height)
+    }
+}
+
+/// Takes a file that begins with P5 or P2; its first picture is read, whatever stands behind it is not.
 pub fn parse(file: &[u8]) -> Result<Picture, String> {
-    let plain = match file.get(..2) {
-        Some(b"P5") => false,
-        Some(b"P2") => true,
-        _ => return Err("not a PGM picture: it begins with neither P5 nor P2".to_string()),
-    };
-    let mut input = Input { rest: &file[2..] };
-    if input.rest.first().is_some_and(|&c| !is_blank(c) && c != b'#') {
-        return Err("not a PGM picture: no white space behind P5 or P2".to_string());
+    let plain = file.starts_with(b"P2");
+    let mut input = Input { rest: file.get(2..).unwrap_or_default() };
+    if input.rest.first().is_some_and(|&byte| !is_blank(byte) && byte != b'#') {
+        return Err("not a PGM picture: no white space stands behind P5 or P2".to_string());
     }
     let header = parse_header(&mut input)?;
-    let samples = if plain { plain_samples(&mut input, &header)? } else { binary_samples(&mut input, &header)? };
-    check_range(&samples, &header)?;
+    let samples = if plain { plain_samples(&mut input, &header)? } else { raw_samples(&input, &header)? };
     // Every sample took at least a byte of the file, so that width and height fit a usize.
-    Ok(Picture { width: header.width as usize, height: header.height as usize, top: header.top, samples })
+    let picture = Picture { width: header.width as usize, height: header.height as usize, top: header.top, samples };
+    picture.check_range()?;
+    Ok(picture)
 }
 
 fn parse_header(input: &mut Input) -> Result<Header, String> {
-    let width = input.number("the width")?;
-    let height = input.number("the height")?;
-    let top = input.number("the maximum value")?;
+    let mut number = |what: &str| input.number().map_err(|fault| fault.words(what));
+    let (width, height, top) = (number("the width")?, number("the height")?, number("the maximum value")?);
     if width == 0 || height == 0 {
         return Err("the width or the height is 0".to_string());
     }
@@ -105,58 +114,44 @@ fn parse_header(input: &mut Input) -> Result<Header, String> {
     }
 }
 
-/// One or two bytes a sample, the high byte first, behind a single white space (or the line end of a comment).
-fn binary_samples(input: &mut Input, header: &Header) -> Result<Vec<u16>, String> {
-    match input.next() {
-        Some(b'#') => input.skip_comment(),
-        Some(_) => {}
-        None => return Err("the file ends behind the maximum value".to_string()),
-    }
-    let size: u64 = if header.top > 255 { 2 } else { 1 };
-    // Both numbers are below 2^32: the product of both and 2 needs more than 64 bits.
-    let needed = u128::from(header.width) * u128::from(header.height) * u128::from(size);
-    let there = input.rest.len() as u128;
-    if there < needed {
-        return Err(format!("the picture is cut: {there} of {needed} bytes of samples are there"));
-    }
-    if there > needed {
-        return Err(format!("{} further bytes stand behind the picture", there - needed));
-    }
+/// One or two bytes a sample, the high byte first.
+fn raw_samples(input: &Input, header: &Header) -> Result<Vec<u16>, String> {
+    let size = if header.top > 255 { 2 } else { 1 };
+    // Width and height are below 2^31, so that the product is below 2^63.
+    let needed = header.count() * size;
+    let bytes = usize::try_from(needed).ok().and_then(|needed| input.rest.get(..needed));
+    let Some(bytes) = bytes else {
+        let there = input.rest.len();
+        return Err(format!(
+            "the picture is cut: {there} of {needed} bytes of samples are there; copy or make the file again"
+        ));
+    };
     Ok(match size {
-        1 => input.rest.iter().map(|&b| u16::from(b)).collect(),
-        _ => input.rest.chunks_exact(2).map(|b| u16::from_be_bytes([b[0], b[1]])).collect(),
+        1 => bytes.iter().map(|&b| u16::from(b)).collect(),
+        _ => bytes.chunks_exact(2).map(|b| u16::from_be_bytes([b[0], b[1]])).collect(),
     })
 }
 
-/// Decimal numbers parted by white space.
+/// Decimal numbers, each with white space behind it.
 fn plain_samples(input: &mut Input, header: &Header) -> Result<Vec<u16>, String> {
-    let count = header.width * header.height;
+    let count = header.count();
     // Nothing is reserved for `count`: a header may say more than the file has.
     let mut samples = Vec::new();
     for i in 0..count {
-        input.skip_blank();
-        if input.rest.is_empty() {
-            return Err(format!("the picture is cut: {i} of {count} samples are there"));
-        }
-        let value = input.number("a sample")?;
-        samples.push(u16::try_from(value).map_err(|_| format!("the sample {value} is above 65535"))?);
-    }
-    input.skip_blank();
-    if input.rest.is_empty() {
-        Ok(samples)
-    } else {
-        Err("more samples than width times height, or other text, stand behind the picture".to_string())
-    }
-}
-
-fn check_range(samples: &[u16], header: &Header) -> Result<(), String> {
-    match samples.iter().position(|&s| s > header.top) {
-        None => Ok(()),
-        Some(i) => {
-            let (x, y) = (i as u64 % header.width, i as u64 / header.width);
-            Err(format!("the sample {} at {x},{y} is above the maximum value {}", samples[i], header.top))
+        let (column, row) = (i % u64::from(header.width), i / u64::from(header.width));
+        let what = || format!("the sample in column {column}, row {row} (counted from 0)");
+        match input.number() {
+            Ok(value) => samples.push(u16::try_from(value).map_err(|_| format!("{} is above 65535", what()))?),
+            Err(Fault::End) => {
+                return Err(format!(
+                    "the picture is cut: {i} of {count} samples are there with white space behind them; copy or make \
+                     the file again, and end it with a line end"
+                ))
+            }
+            Err(fault) => return Err(fault.words(&what())),
         }
     }
+    Ok(samples)
 }
 
 /// The bytes of a P5 file.
@@ -165,9 +160,33 @@ pub fn format(picture: &Picture) -> Vec<u8> {
     if picture.top > 255 {
         file.extend(picture.samples.iter().flat_map(|s| s.to_be_bytes()));
     } else {
+        // No sample is above the maximum value.
         file.extend(picture.samples.iter().map(|&s| s as u8));
     }
     file
+}
+
+/// The bytes of a P2 file; every row of the picture begins on a line of its own.
+pub fn format_plain(picture: &Picture) -> Vec<u8> {
+    let mut file = format!("P2\n{} {}\n{}\n", picture.width, picture.height, picture.top);
+    for row in picture.samples.chunks(picture.width) {
+        let mut line = String::new();
+        for sample in row {
+            let word = sample.to_string();
+            if line.len() + 1 + word.len() > LINE {
+                file += &line;
+                file.push('\n');
+                line.clear();
+            }
+            if !line.is_empty() {
+                line.push(' ');
+            }
+            line += &word;
+        }
+        file += &line;
+        file.push('\n');
+    }
+    file.into_bytes()
 }
 
 #[cfg(test)]
@@ -180,7 +199,7 @@ mod tests {
     }
 
     #[test]
-    fn binary_eight_bits() {
+    fn raw_eight_bits() {
         let picture = parse(b"P5\n2 2\n255\n\x0a\x07\x04\xff").unwrap();
         assert_eq!((picture.width, picture.height, picture.top), (2, 2, 255));
         assert_eq!(picture.samples, [10, 7, 4, 255]);
@@ -188,7 +207,7 @@ mod tests {
     }
 
     #[test]
-    fn binary_sixteen_bits_high_byte_first() {
+    fn raw_sixteen_bits_high_byte_first() {
         let picture = parse(b"P5 2 1 1023 \x03\xff\x01\x02").unwrap();
         assert_eq!(picture.samples, [1023, 258]);
         assert_eq!(picture.depth(), 10);
@@ -197,28 +216,32 @@ mod tests {
     #[test]
     fn the_first_sample_may_look_like_white_space_or_a_comment() {
         assert_eq!(parse(b"P5 2 1 255\n\n#").unwrap().samples, [10, 35]);
+        assert_eq!(parse(b"P5 1 1 255\r\n").unwrap().samples, [10]);
     }
 
     #[test]
     fn plain() {
-        let picture = parse(b"P2\n3 1\n15\n1 2\n15").unwrap();
+        let picture = parse(b"P2\n3 1\n15\n1 2\r\n\t15\n").unwrap();
         assert_eq!(picture.samples, [1, 2, 15]);
         assert_eq!(picture.depth(), 4);
     }
 
     #[test]
-    fn comments_in_the_header() {
+    fn comments_in_the_header_and_between_plain_samples() {
         let picture = parse(b"P5# made by hand\n#\n# 9 9\n2 # width\n1#height\n255# top\n\x01\x02").unwrap();
         assert_eq!((picture.width, picture.height), (2, 1));
         assert_eq!(picture.samples, [1, 2]);
-        assert_eq!(parse(b"P2 #a\n1 1 #b\n3 #c\n2 #d").unwrap().samples, [2]);
+        assert_eq!(parse(b"P2 #a\n2 1 #b\r3 #c\n2#d\n#e\n 1#f\n").unwrap().samples, [2, 1]);
     }
 
     #[test]
-    fn depth_of_the_maximum_value() {
-        let depth = |top| Picture { width: 1, height: 1, top, samples: vec![0] }.depth();
-        assert_eq!([1, 2, 3, 4, 200, 255, 256, 1000, 1023, 1024].map(depth), [1, 2, 2, 3, 8, 8, 9, 10, 10, 11]);
-        assert_eq!(depth(65535), 16);
+    fn a_maximum_value_is_kept_and_scales_nothing() {
+        for (file, top) in [(&b"P5 3 1 200 \x00\x64\xc8"[..], 200), (b"P2 3 1 1000 0 100 200 ", 1000)] {
+            let picture = parse(file).unwrap();
+            assert_eq!(picture.top, top);
+            assert_eq!(picture.samples, [0, 100, 200]);
+            assert_eq!(parse(&format(&picture)).unwrap(), picture);
+        }
     }
 
     #[test]
@@ -226,48 +249,70 @@ mod tests {
         for top in [1, 255, 256, 1023, 65535] {
             let picture = Picture { width: 3, height: 2, top, samples: vec![0, 1, 0, top, top / 2, 1] };
             assert_eq!(parse(&format(&picture)).unwrap(), picture);
+            assert_eq!(parse(&format_plain(&picture)).unwrap(), picture);
         }
     }
 
     #[test]
+    fn plain_lines_have_at_most_70_characters() {
+        let picture = Picture { width: 13, height: 2, top: 65535, samples: vec![65535; 26] };
+        let text = String::from_utf8(format_plain(&picture)).unwrap();
+        // Eleven numbers of five digits and ten blanks are 65 characters; a twelfth would make 71.
+        let lengths: Vec<usize> = text.lines().skip(3).map(str::len).collect();
+        assert_eq!(lengths, [65, 11, 65, 11]);
+        let picture = Picture { width: 36, height: 1, top: 9, samples: vec![7; 36] };
+        let text = String::from_utf8(format_plain(&picture)).unwrap();
+        assert_eq!(text.lines().skip(3).map(str::len).collect::<Vec<_>>(), [69, 1]);
+    }
+
+    #[test]
     fn not_a_pgm() {
-        for file in [&b""[..], b"P", b"P6 1 1 255 abc", b"\x89PNG\r\n", b"P52 2 255 ...."] {
+        for file in [&b"P52 2 255 ...."[..], b"P2x"] {
             refused(file, "not a PGM");
         }
     }
 
     #[test]
     fn every_cut_is_turned_back() {
-        for file in [&b"P5 # c\n2 2\n1023\n\x00\x01\x00\x02\x00\x03\x00\x04"[..], b"P2\n2 2\n255\n1 2 3 "] {
-            for length in 0..file.len() {
-                assert!(parse(&file[..length]).is_err(), "{length}");
+        for file in [&b"P5 # c\n2 2\n1023\n\x00\x01\x00\x02\x00\x03\x00\x04"[..], b"P2\n2 2\n255\n1 2 3 14\n"] {
+            assert!(parse(file).is_ok());
+            for length in 2..file.len() {
+                refused(&file[..length], "cut");
             }
         }
     }
 
     #[test]
-    fn too_long() {
-        refused(b"P5 1 1 255 ab", "1 further bytes");
-        refused(b"P2 1 1 255 1 2", "more samples");
+    fn the_first_picture_of_a_file_is_read() {
+        assert_eq!(parse(b"P5 1 1 255 aP5 1 1 255 b").unwrap().samples, [97]);
+        assert_eq!(parse(b"P5 1 1 255 a\n").unwrap().samples, [97]);
+        assert_eq!(parse(b"P2 1 1 255 7 P2 1 1 255 8 ").unwrap().samples, [7]);
+        assert_eq!(parse(b"P2 1 1 255 7 8 9 and so on").unwrap().samples, [7]);
     }
 
     #[test]
     fn bad_numbers() {
         refused(b"P5 -1 1 255 a", "the width is not a number");
         refused(b"P5 1 1x 255 a", "the height is not a number");
+        refused(b"P5 1 1 255\x0ba", "the maximum value is not a number");
         refused(b"P5 0 1 255 ", "is 0");
         refused(b"P5 1 1 0 a", "not 1 to 65535");
         refused(b"P5 1 1 65536 a", "not 1 to 65535");
-        refused(b"P2 1 1 255 256", "above the maximum value");
-        refused(b"P2 1 1 255 99999", "above 65535");
-        refused(b"P5 2 1 200 \x01\xc9", "201 at 1,0");
+        refused(
+            b"P2 2 1 255 1 256 ",
+            "the sample in column 1, row 0 (counted from 0) is 256, above the maximum value 255",
+        );
+        refused(b"P2 1 2 255 1 99999 ", "the sample in column 0, row 1 (counted from 0) is above 65535");
+        refused(b"P2 1 2 255 1 x ", "the sample in column 0, row 1 (counted from 0) is not a number");
+        refused(b"P5 2 1 200 \x01\xc9", "column 1, row 0 (counted from 0) is 201, above the maximum value 200");
     }
 
     #[test]
     fn huge_numbers_take_no_memory() {
-        refused(b"P5 99999999999999999999 1 255 a", "too large");
-        refused(b"P5 4294967295 4294967295 65535 a", "is cut");
-        refused(b"P2 4294967295 4294967295 65535 1 2", "2 of");
+        refused(b"P5 99999999999999999999 1 255 a", "the width is too large");
+        refused(b"P5 2147483648 1 255 a", "the width is too large");
+        refused(b"P5 2147483647 2147483647 65535 a", "1 of 9223372028264841218 bytes");
+        refused(b"P2 2147483647 2147483647 65535 1 2 ", "2 of");
     }
 
     #[test]

@@ -3,355 +3,271 @@
 //! Numbers are taken as they are given: whether a kernel, a level count or a rectangle is within the limits, the codec
 //! decides, and says so by its refusal.
 
-use crate::cable::Time;
-use std::ffi::{OsStr, OsString};
+use crate::cable::{Cable, Time};
+use crate::codec::KERNELS;
+use crate::failure::STATUSES;
+use crate::rectangles::Rectangle;
+use crate::words::number;
+use clap::{value_parser, ArgGroup, Args, Parser, Subcommand, ValueEnum};
+use picture::Format;
 use std::path::PathBuf;
 
-pub const USAGE: &str = "\
-dhiirqobaal: panel shots whose rectangles arrive exactly
+/// Panel shots whose marked rectangles arrive exactly
+///
+/// A picture becomes one stream of bit planes, those of up to 32 rectangles first. The stream may be
+/// cut at any byte from its region mark on, by 'cut' or by a call that breaks off: the rectangles
+/// are exact, and the rest gets better with every byte. The link must deliver bytes unchanged: a
+/// changed bit cannot be seen. A file name '-' is standard input or standard output.
+#[derive(Parser)]
+#[command(verbatim_doc_comment)]
+#[command(name = "dhiirqobaal", version, propagate_version = true, subcommand_required = true)]
+#[command(arg_required_else_help = true, after_help = STATUSES)]
+pub struct Line {
+    /// Say nothing but failures; the exit status tells the rest
+    #[arg(short, long, global = true, display_order = 900)]
+    pub quiet: bool,
+    #[command(subcommand)]
+    pub command: Command,
+}
 
-  dhiirqobaal encode IN.pgm OUT.stream [--rect x,y,w,h]... [--kernel K] [--levels J] [--depth D]
-      transforms a PGM picture (P5 or P2) and writes its stream. Up to 32 rectangles; K is 0 or s, 1 or sp, 2 or tt,
-      3 or 53 (default 3); J is 1 to 5 (default 3); D is 1 to 10 (default: the bits of the picture's maximum value).
-      Width and height are 1 to 4,096 each
-  dhiirqobaal info STREAM
-      prints the header, the rectangles, how much has arrived, and the seconds on the cable
-  dhiirqobaal cut IN.stream OUT.stream --length BYTES | --seconds S
-      cuts a stream to a length, from its region mark to its own, or to what the cable carries in S seconds (to all of
-      it where that is less)
-  dhiirqobaal show STREAM OUT.pgm
-      writes the picture of a stream, whole or cut
-  dhiirqobaal compare A.pgm B.pgm [[--rect x,y,w,h]... | --stream STREAM]
-      compares two pictures sample by sample: within the rectangles, within those of a stream, or everywhere
-  dhiirqobaal demo [DIR]
-      draws an operator panel, encodes it, cuts it at several lengths and shows each; the files go to DIR (default
-      dhiirqobaal-demo)
-  dhiirqobaal help
-      prints this text
-
-Seconds are those of a cable with 115,200 bits a second, taken as 8 bits a byte. A file whose name begins with - stands
-behind --.
-Exit status: 0 done, no sample differs; 1 samples differ; 2 bad usage or a file that cannot be used; 3 refused by the
-codec, with the refusal's number and meaning.
-";
-
-const DEFAULT_KERNEL: usize = 3;
-const DEFAULT_LEVELS: usize = 3;
-const DEFAULT_FOLDER: &str = "dhiirqobaal-demo";
-
-#[derive(Debug, PartialEq)]
+#[derive(Subcommand)]
 pub enum Command {
-    Help,
-    Encode { input: PathBuf, output: PathBuf, choice: Choice },
-    Info { stream: PathBuf },
-    Cut { input: PathBuf, output: PathBuf, wanted: Wanted },
-    Show { stream: PathBuf, output: PathBuf },
-    Compare { left: PathBuf, right: PathBuf, within: Within },
-    Demo { folder: PathBuf },
+    Encode(Encode),
+    Info(Info),
+    Cut(Cut),
+    Show(Show),
+    Compare(Compare),
+    Demo(Demo),
 }
 
-/// What a picture is encoded under. Where no depth is given, the picture's maximum value decides.
-#[derive(Debug, PartialEq)]
-pub struct Choice {
-    pub rectangles: Vec<u32>,
+/// Make a stream of a picture
+///
+/// The picture is a PGM (plain or raw) or PNG file, grey, of any size up to 4,096 by 4,096. Its
+/// depth is that of its maximum value unless --depth says otherwise.
+///
+/// 5/3 with 3 levels, the default, is a sound start. More levels show the rest of the picture
+/// earlier and move the region mark a little later: take 5 where the call may end early, 1 where
+/// the rectangles are all that counts. s has the shortest region mark at 2 levels and more. The
+/// demonstration's panel, 1,366 by 768 samples with 8 rectangles: bit planes, bytes up to the region
+/// mark and in all, and the mean difference outside the rectangles after 16, 32 and 64 seconds at
+/// 115,200 bits a second:
+///
+///   kernel  levels  planes  region mark        all   16 s  32 s  64 s
+///   s            3       9       87,710  1,248,817   69.8  30.3   2.7
+///   s+p          3       9       97,228  1,255,725   72.1  32.1   2.3
+///   tt           3       9      110,033  1,292,696  115.2  29.4   2.0
+///   5/3          3       9       96,735  1,252,392   68.4  30.5   1.6
+///   5/3          1       9       92,453  1,263,472  123.7  31.5   1.5
+///   5/3          5       9       98,354  1,251,984   57.7  27.3   1.7
+///   s+p          1       8       83,206  1,137,348   63.7  16.2   0.9
+///   tt           2       8       95,599  1,162,488   59.2  15.1   1.1
+///
+/// A plane fewer is worth more than any other choice, and which kernel and level count save one
+/// depends on the picture: where many of one kind are sent, encode one under each kernel and level
+/// count, and take the one whose 'info' has the fewest planes T and the earliest region mark.
+#[derive(Args)]
+#[command(after_help = STATUSES, verbatim_doc_comment)]
+#[command(override_usage = "dhiirqobaal encode [OPTIONS] IN OUT\n       dhiirqobaal encode [OPTIONS] --into DIR IN...")]
+pub struct Encode {
+    /// The picture and the stream, '-' for standard input and output; with --into, pictures alone
+    #[arg(value_name = "FILE", required = true)]
+    pub files: Vec<PathBuf>,
+    /// Write the stream of each picture to DIR, its ending replaced by .stream
+    #[arg(long, value_name = "DIR")]
+    pub into: Option<PathBuf>,
+    #[command(flatten)]
+    pub marked: Marked,
+    /// The kernel: s, s+p, tt or 5/3, or its number, 0 to 3
+    #[arg(long, value_name = "K", default_value = "5/3", value_parser = kernel, allow_hyphen_values = true)]
     pub kernel: usize,
+    /// The levels J, 1 to 5
+    #[arg(long, value_name = "J", default_value = "3", value_parser = whole, allow_hyphen_values = true)]
     pub levels: usize,
+    /// The depth D in bits, 1 to 10 [default: that of the picture's maximum value]
+    #[arg(long, value_name = "D", value_parser = whole, allow_hyphen_values = true)]
     pub depth: Option<usize>,
+    #[command(flatten)]
+    pub cable: CableArgs,
 }
 
-/// How long a cut stream is to be.
-#[derive(Debug, PartialEq)]
-pub enum Wanted {
-    Bytes(usize),
-    Time(Time),
+/// Tell what a stream says of itself, and how much of it arrived
+///
+/// A file that is shorter than its length field says is what a call that broke off has left: it is
+/// taken as the stream cut to what arrived. A bit that was changed on the way cannot be seen by any
+/// reader of this format: that all marked bits arrived does not say that they are right.
+#[derive(Args)]
+#[command(after_help = STATUSES, verbatim_doc_comment)]
+pub struct Info {
+    /// The streams, '-' for standard input
+    #[arg(value_name = "STREAM", required = true)]
+    pub files: Vec<PathBuf>,
+    /// Print one JSON object for each stream, one a line
+    #[arg(long)]
+    pub json: bool,
+    #[command(flatten)]
+    pub cable: CableArgs,
 }
 
-/// Which samples are compared.
-#[derive(Debug, PartialEq)]
-pub enum Within {
-    All,
-    Rectangles(Vec<u32>),
-    Stream(PathBuf),
+/// Cut a stream to a length, from its region mark to its own
+///
+/// A length below the region mark or above the stream's own is refused (15). The input may be what
+/// a call that broke off has left.
+#[derive(Args)]
+#[command(after_help = STATUSES, verbatim_doc_comment)]
+#[command(group(ArgGroup::new("wanted").required(true).args(["length", "mark", "seconds"])))]
+#[command(override_usage = "dhiirqobaal cut [OPTIONS] <--length BYTES|--mark|--seconds S> IN OUT
+       dhiirqobaal cut [OPTIONS] <--length BYTES|--mark|--seconds S> --into DIR IN...")]
+pub struct Cut {
+    /// The stream and the cut stream, '-' for standard input and output; with --into, streams alone
+    #[arg(value_name = "FILE", required = true)]
+    pub files: Vec<PathBuf>,
+    /// Write each cut stream to DIR, under the name of its stream
+    #[arg(long, value_name = "DIR")]
+    pub into: Option<PathBuf>,
+    /// Cut to this many bytes
+    #[arg(long, value_name = "BYTES", value_parser = whole, allow_hyphen_values = true)]
+    pub length: Option<usize>,
+    /// Cut to the region mark, the shortest length with exact rectangles
+    #[arg(long)]
+    pub mark: bool,
+    /// Cut to what the cable carries in S seconds, to all where that is less; up to nine decimals
+    #[arg(long, value_name = "S", allow_hyphen_values = true)]
+    pub seconds: Option<Time>,
+    #[command(flatten)]
+    pub cable: CableArgs,
 }
 
-/// The words behind a command, sorted.
-#[derive(Default)]
-struct Words {
-    files: Vec<PathBuf>,
-    rectangles: Vec<u32>,
-    kernel: Option<usize>,
-    levels: Option<usize>,
-    depth: Option<usize>,
-    length: Option<usize>,
-    seconds: Option<Time>,
-    stream: Option<PathBuf>,
+/// Make a picture of a stream, whole or cut
+///
+/// The input may be what a call that broke off has left. The picture is written as PNG where OUT
+/// ends in .png, else as PGM, unless --format says otherwise.
+#[derive(Args)]
+#[command(after_help = STATUSES, verbatim_doc_comment)]
+#[command(
+    override_usage = "dhiirqobaal show [OPTIONS] STREAM OUT\n       dhiirqobaal show [OPTIONS] --into DIR STREAM..."
+)]
+pub struct Show {
+    /// The stream and the picture, '-' for standard input and output; with --into, streams alone
+    #[arg(value_name = "FILE", required = true)]
+    pub files: Vec<PathBuf>,
+    /// Write the picture of each stream to DIR, its ending replaced by .pgm or .png
+    #[arg(long, value_name = "DIR")]
+    pub into: Option<PathBuf>,
+    /// The picture's format [default: by the ending of OUT, else pgm]
+    #[arg(long, value_enum, ignore_case = true)]
+    pub format: Option<FormatName>,
+    /// Draw a frame around every exact rectangle, one sample outside it
+    #[arg(long)]
+    pub frames: bool,
 }
 
-/// Takes the words behind the program's name.
-pub fn parse(words: &[OsString]) -> Result<Command, String> {
-    let Some((command, rest)) = words.split_first() else {
-        return Err("no command is given".to_string());
-    };
-    match command.to_str() {
-        Some("help" | "--help" | "-h") => Ok(Command::Help),
-        Some("encode") => encode(rest),
-        Some("info") => info(rest),
-        Some("cut") => cut(rest),
-        Some("show") => show(rest),
-        Some("compare") => compare(rest),
-        Some("demo") => demo(rest),
-        _ => Err(format!("'{}' is not a command", command.display())),
+/// Compare two pictures sample by sample: everywhere, or within rectangles
+#[derive(Args)]
+#[command(after_help = STATUSES)]
+pub struct Compare {
+    /// The first picture, '-' for standard input
+    pub a: PathBuf,
+    /// The second picture, '-' for standard input
+    pub b: PathBuf,
+    #[command(flatten)]
+    pub marked: Marked,
+    /// Compare within the rectangles of this stream
+    #[arg(long, value_name = "STREAM", conflicts_with_all = ["rect", "rects"])]
+    pub stream: Option<PathBuf>,
+}
+
+/// Draw an operator panel, encode it, cut it at several lengths and show each
+#[derive(Args)]
+#[command(after_help = STATUSES)]
+pub struct Demo {
+    /// The folder for the pictures and streams, which is made where it is missing
+    #[arg(value_name = "DIR", default_value = "dhiirqobaal-demo")]
+    pub folder: PathBuf,
+}
+
+// No comment of help: clap would put it in the place of the command's own.
+#[derive(Args)]
+pub struct Marked {
+    /// A rectangle, as x,y,w,h or WxH+X+Y; up to 32
+    #[arg(long, value_name = "R", allow_hyphen_values = true)]
+    pub rect: Vec<Rectangle>,
+    /// A file of rectangles, one a line, behind those of --rect; what stands behind # is a comment
+    #[arg(long, value_name = "FILE")]
+    pub rects: Option<PathBuf>,
+}
+
+// The same holds here.
+#[derive(Args)]
+pub struct CableArgs {
+    /// The cable's bits a second, for all seconds
+    #[arg(long, value_name = "B", default_value_t = Cable::default().baud, allow_hyphen_values = true)]
+    #[arg(value_parser = value_parser!(u64).range(1..=1_000_000_000_000))]
+    baud: u64,
+    /// The cable's bits a byte; a UART with a start and a stop bit sends 10
+    #[arg(long, value_name = "N", default_value_t = Cable::default().bits_per_byte, allow_hyphen_values = true)]
+    #[arg(value_parser = value_parser!(u64).range(8..=100))]
+    bits_per_byte: u64,
+}
+
+impl CableArgs {
+    pub fn cable(&self) -> Cable {
+        Cable { baud: self.baud, bits_per_byte: self.bits_per_byte }
     }
 }
 
-fn encode(words: &[OsString]) -> Result<Command, String> {
-    let found = sort(words, &["--rect", "--kernel", "--levels", "--depth"])?;
-    let [input, output] = files(found.files, "encode takes two files, IN.pgm and OUT.stream")?;
-    let choice = Choice {
-        rectangles: found.rectangles,
-        kernel: found.kernel.unwrap_or(DEFAULT_KERNEL),
-        levels: found.levels.unwrap_or(DEFAULT_LEVELS),
-        depth: found.depth,
-    };
-    Ok(Command::Encode { input, output, choice })
+/// The formats by their names on the command line.
+#[derive(Clone, Copy, ValueEnum)]
+pub enum FormatName {
+    /// PGM, raw
+    Pgm,
+    /// PGM in plain text
+    Plain,
+    /// PNG
+    Png,
 }
 
-fn info(words: &[OsString]) -> Result<Command, String> {
-    let [stream] = files(sort(words, &[])?.files, "info takes one file, STREAM")?;
-    Ok(Command::Info { stream })
-}
-
-fn cut(words: &[OsString]) -> Result<Command, String> {
-    let found = sort(words, &["--length", "--seconds"])?;
-    let [input, output] = files(found.files, "cut takes two files, IN.stream and OUT.stream")?;
-    let wanted = match (found.length, found.seconds) {
-        (Some(bytes), None) => Wanted::Bytes(bytes),
-        (None, Some(time)) => Wanted::Time(time),
-        _ => return Err("cut takes either --length BYTES or --seconds S".to_string()),
-    };
-    Ok(Command::Cut { input, output, wanted })
-}
-
-fn show(words: &[OsString]) -> Result<Command, String> {
-    let [stream, output] = files(sort(words, &[])?.files, "show takes two files, STREAM and OUT.pgm")?;
-    Ok(Command::Show { stream, output })
-}
-
-fn compare(words: &[OsString]) -> Result<Command, String> {
-    let found = sort(words, &["--rect", "--stream"])?;
-    let [left, right] = files(found.files, "compare takes two files, A.pgm and B.pgm")?;
-    let within = match (found.stream, found.rectangles.is_empty()) {
-        (None, true) => Within::All,
-        (None, false) => Within::Rectangles(found.rectangles),
-        (Some(stream), true) => Within::Stream(stream),
-        (Some(_), false) => return Err("compare takes either --rect or --stream".to_string()),
-    };
-    Ok(Command::Compare { left, right, within })
-}
-
-fn demo(words: &[OsString]) -> Result<Command, String> {
-    let mut found = sort(words, &[])?.files;
-    if found.is_empty() {
-        found.push(PathBuf::from(DEFAULT_FOLDER));
-    }
-    let [folder] = files(found, "demo takes one folder at most, DIR")?;
-    Ok(Command::Demo { folder })
-}
-
-fn files<const N: usize>(found: Vec<PathBuf>, rule: &str) -> Result<[PathBuf; N], String> {
-    <[PathBuf; N]>::try_from(found).map_err(|_| rule.to_string())
-}
-
-/// Sorts words into files and options; only the allowed options are taken.
-fn sort(words: &[OsString], allowed: &[&str]) -> Result<Words, String> {
-    let mut found = Words::default();
-    let mut rest = words.iter();
-    while let Some(word) = rest.next() {
-        if word == "--" {
-            found.files.extend(rest.by_ref().map(PathBuf::from));
-        } else if !word.as_encoded_bytes().starts_with(b"-") {
-            found.files.push(PathBuf::from(word));
-        } else {
-            let option = allowed.iter().find(|name| word.as_os_str() == OsStr::new(name));
-            let Some(option) = option else {
-                return Err(format!("'{}' is not an option of this command", word.display()));
-            };
-            let value = rest.next().ok_or_else(|| format!("{option} has no value"))?;
-            take_option(&mut found, option, value)?;
+impl From<FormatName> for Format {
+    fn from(name: FormatName) -> Format {
+        match name {
+            FormatName::Pgm => Format::Pgm,
+            FormatName::Plain => Format::PlainPgm,
+            FormatName::Png => Format::Png,
         }
     }
-    Ok(found)
 }
 
-fn take_option(found: &mut Words, option: &str, value: &OsStr) -> Result<(), String> {
-    if option == "--stream" {
-        return once(&mut found.stream, option, Some(PathBuf::from(value)), "a file", value);
-    }
-    let text = value.to_str().unwrap_or("");
-    match option {
-        "--rect" => {
-            let numbers = rectangle(text).ok_or_else(|| bad_value(option, "four numbers x,y,w,h", value))?;
-            found.rectangles.extend(numbers);
-            Ok(())
-        }
-        "--kernel" => once(&mut found.kernel, option, kernel(text), "0 to 3, s, sp, tt or 53", value),
-        "--levels" => once(&mut found.levels, option, number(text), "a whole number", value),
-        "--depth" => once(&mut found.depth, option, number(text), "a whole number", value),
-        "--length" => once(&mut found.length, option, number(text), "a whole number of bytes", value),
-        _ => once(&mut found.seconds, option, time(text), "a number of seconds such as 2 or 0.5", value),
-    }
+fn whole(text: &str) -> Result<usize, String> {
+    number(text).ok_or_else(|| "a whole number below 2^64 is taken".to_string())
 }
 
-/// Stores the value of an option that may be given once.
-fn once<T>(place: &mut Option<T>, option: &str, value: Option<T>, rule: &str, given: &OsStr) -> Result<(), String> {
-    if place.is_some() {
-        return Err(format!("{option} is given twice"));
-    }
-    if value.is_none() {
-        return Err(bad_value(option, rule, given));
-    }
-    *place = value;
-    Ok(())
-}
-
-fn bad_value(option: &str, rule: &str, given: &OsStr) -> String {
-    format!("{option} takes {rule}, not '{}'", given.display())
-}
-
-/// A whole number in decimal digits alone.
-fn number<T: std::str::FromStr>(text: &str) -> Option<T> {
-    if text.bytes().all(|c| c.is_ascii_digit()) {
-        text.parse().ok()
-    } else {
-        None
-    }
-}
-
-fn kernel(text: &str) -> Option<usize> {
-    match text.to_ascii_lowercase().as_str() {
-        "s" => Some(0),
-        "sp" => Some(1),
-        "tt" => Some(2),
-        "53" => Some(3),
-        _ => number(text),
-    }
-}
-
-fn rectangle(text: &str) -> Option<[u32; 4]> {
-    let numbers: Option<Vec<u32>> = text.split(',').map(number).collect();
-    numbers?.try_into().ok()
-}
-
-/// Seconds with up to nine digits behind the point.
-fn time(text: &str) -> Option<Time> {
-    let (whole, part) = text.split_once('.').unwrap_or((text, "0"));
-    if part.is_empty() || part.len() > 9 {
-        return None;
-    }
-    let whole: u64 = number(whole)?;
-    let part: u64 = number(&format!("{part:0<9}"))?;
-    Some(Time(whole.checked_mul(1_000_000_000)?.checked_add(part)?))
+/// A kernel by its number, or by its name in either case of letters, with or without the sign inside.
+fn kernel(text: &str) -> Result<usize, String> {
+    let plain = |name: &str| name.replace(['+', '/'], "").to_lowercase();
+    let named = |name: &&str| name.eq_ignore_ascii_case(text) || plain(name) == text.to_lowercase();
+    let found = KERNELS.iter().position(named).or_else(|| number(text));
+    found.ok_or_else(|| "a kernel is s, s+p, tt or 5/3, or a number, 0 to 3".to_string())
 }
 
 #[cfg(test)]
 mod tests {
     use super::*;
+    use clap::CommandFactory;
 
-    fn line(text: &str) -> Result<Command, String> {
-        let words: Vec<OsString> = text.split_whitespace().map(OsString::from).collect();
-        parse(&words)
-    }
-
-    fn refused(text: &str, word: &str) {
-        let message = line(text).expect_err("should be turned back");
-        assert!(message.contains(word), "{message}");
-    }
-
-    fn encoded(text: &str) -> (Vec<u32>, usize, usize, Option<usize>) {
-        match line(text) {
-            Ok(Command::Encode { choice: c, .. }) => (c.rectangles, c.kernel, c.levels, c.depth),
-            other => panic!("{other:?}"),
-        }
+    #[test]
+    fn the_command_line_is_in_order() {
+        Line::command().debug_assert();
     }
 
     #[test]
-    fn encode_with_defaults() {
-        assert_eq!(encoded("encode a.pgm b.stream"), (vec![], DEFAULT_KERNEL, DEFAULT_LEVELS, None));
-    }
-
-    #[test]
-    fn encode_with_everything_in_any_order() {
-        let found = encoded("encode --rect 1,2,3,4 a --depth 10 --rect 0,0,9,9 b --levels 5 --kernel tt");
-        assert_eq!(found, (vec![1, 2, 3, 4, 0, 0, 9, 9], 2, 5, Some(10)));
+    fn the_library_has_the_version_of_the_program() {
+        let numbers: Vec<u64> = env!("CARGO_PKG_VERSION").split('.').map(|part| part.parse().unwrap()).collect();
+        assert_eq!(bindings::version(), 10_000 * numbers[0] + 100 * numbers[1] + numbers[2]);
     }
 
     #[test]
     fn kernels_by_number_and_name() {
-        let found = ["0", "1", "2", "3", "s", "SP", "tt", "53"].map(kernel);
-        assert_eq!(found, [0, 1, 2, 3, 0, 1, 2, 3].map(Some));
-        assert_eq!(["", "x", "-1", "0x2", "5/3"].map(kernel), [None; 5]);
-    }
-
-    #[test]
-    fn numbers_outside_the_limits_are_left_to_the_codec() {
-        assert_eq!(encoded("encode a b --kernel 300 --levels 0 --depth 77"), (vec![], 300, 0, Some(77)));
-    }
-
-    #[test]
-    fn rectangles() {
-        assert_eq!(rectangle("0,1,4294967295,3"), Some([0, 1, u32::MAX, 3]));
-        for text in ["", "1,2,3", "1,2,3,4,5", "1,2,3,", "1, 2,3,4", "-1,2,3,4", "1,2,3,4294967296", "a,b,c,d"] {
-            assert_eq!(rectangle(text), None, "{text}");
-        }
-    }
-
-    #[test]
-    fn times() {
-        assert_eq!(time("2"), Some(Time(2_000_000_000)));
-        assert_eq!(time("0.5"), Some(Time(500_000_000)));
-        assert_eq!(time("1.000000001"), Some(Time(1_000_000_001)));
-        for text in ["", ".5", "1.", "-1", "1e3", "inf", "nan", "1.0000000001", "99999999999999999999"] {
-            assert_eq!(time(text), None, "{text}");
-        }
-    }
-
-    #[test]
-    fn cut_takes_one_length() {
-        assert!(matches!(line("cut a b --length 9"), Ok(Command::Cut { wanted: Wanted::Bytes(9), .. })));
-        assert!(matches!(line("cut a b --seconds 1"), Ok(Command::Cut { wanted: Wanted::Time(_), .. })));
-        refused("cut a b", "either");
-        refused("cut a b --length 9 --seconds 1", "either");
-        refused("cut a b --length 9 --length 9", "twice");
-        refused("cut a b --length", "no value");
-        refused("cut a b --length 18446744073709551616", "a whole number of bytes");
-    }
-
-    #[test]
-    fn compare_takes_rectangles_or_a_stream() {
-        assert!(matches!(line("compare a b"), Ok(Command::Compare { within: Within::All, .. })));
-        let found = line("compare a b --rect 1,2,3,4");
-        assert!(matches!(found, Ok(Command::Compare { within: Within::Rectangles(n), .. }) if n == [1, 2, 3, 4]));
-        let found = line("compare a b --stream c");
-        assert!(matches!(found, Ok(Command::Compare { within: Within::Stream(_), .. })));
-        refused("compare a b --stream c --rect 1,2,3,4", "either");
-    }
-
-    #[test]
-    fn wrong_commands() {
-        refused("", "no command");
-        refused("decode a b", "'decode' is not a command");
-        refused("encode a", "two files");
-        refused("encode a b c", "two files");
-        refused("info", "one file");
-        refused("info a --rect 1,2,3,4", "not an option");
-        refused("show a b -x", "not an option");
-        refused("demo a b", "one folder");
-        refused("encode a b --kernel five", "not 'five'");
-    }
-
-    #[test]
-    fn files_behind_two_dashes() {
-        let found = line("show -- -a --b").unwrap();
-        assert_eq!(found, Command::Show { stream: "-a".into(), output: "--b".into() });
+        let found = ["0", "1", "2", "3", "s", "S+P", "sp", "tt", "5/3", "53", "300"].map(kernel);
+        assert_eq!(found, [0, 1, 2, 3, 0, 1, 1, 2, 3, 3, 300].map(Ok));
+        assert!(["", "x", "-1", "+1", "0x2", "s/p", "s+"].map(kernel).iter().all(Result::is_err));
     }
 }

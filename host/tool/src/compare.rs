@@ -31,8 +31,12 @@ impl Differences {
 /// Compares the samples where the region holds the wanted byte. The three slices are equally long.
 pub fn differences(left: &[u16], right: &[u16], region: &[u8], wanted: u8, width: usize) -> Differences {
     let mut found = Differences::default();
-    for (i, ((&a, &b), _)) in left.iter().zip(right).zip(region).enumerate().filter(|(_, (_, &mark))| mark == wanted) {
+    for (i, &mark) in region.iter().enumerate() {
+        if mark != wanted {
+            continue;
+        }
         found.compared += 1;
+        let (a, b) = (left[i], right[i]);
         if a == b {
             continue;
         }

@@ -1,12 +1,14 @@
 //! The demonstration: a panel shot, cut at several lengths, each shown and compared with what was captured.
 
-use crate::args::Choice;
-use crate::cable;
-use crate::codec::{self, Written};
-use crate::commands::{shown, written};
+use crate::cable::Cable;
+use crate::codec::{self, Stream, Written};
+use crate::commands::encode::{written, Choice};
+use crate::commands::show::shown;
+use crate::commands::write_picture;
 use crate::compare::differences;
-use crate::failure::Failure;
-use crate::files;
+use crate::failure::{meaning, Failure, Status};
+use crate::messages::Messages;
+use crate::output;
 use crate::panel;
 use picture::{Format, Picture};
 use std::path::Path;
@@ -19,26 +21,33 @@ struct Shot<'a> {
     folder: &'a Path,
     panel: Picture,
     region: Vec<u8>,
-    written: Written,
+    stream: Stream,
+    region_mark: usize,
+    marks: usize,
+    cable: Cable,
+    messages: Messages,
 }
 
-pub fn run(folder: &Path) -> Result<(), Failure> {
-    files::make_folder(folder)?;
+pub fn run(folder: &Path, quiet: bool) -> Result<Status, Failure> {
+    let messages = Messages { quiet, data: false };
+    output::make_folder(folder)?;
     let panel = panel::draw();
-    files::write(&folder.join("panel.pgm"), &picture::format(&panel, Format::Pgm).map_err(Failure::Input)?)?;
+    write_picture(&folder.join("panel.pgm"), &panel, Format::Pgm, &messages)?;
     let region = codec::region(&panel::rectangles(), panel.width, panel.height)?;
-    let written = written(&panel, &choice(KERNEL))?;
-    files::write(&folder.join("panel.stream"), &written.stream)?;
-    let shot = Shot { folder, panel, region, written };
-    files::print(&heading(&shot))?;
-    for (label, length) in lengths(&shot.written) {
-        files::print(&row(&shot, &label, length)?)?;
+    let Written { bytes, region_mark, marks } = written(&panel, &choice(KERNEL), &messages)?;
+    output::write(&folder.join("panel.stream"), &bytes)?;
+    let (stream, cable) = (Stream::of(bytes)?, Cable::default());
+    let shot = Shot { folder, panel, region, stream, region_mark, marks, cable, messages };
+    messages.report(&heading(&shot))?;
+    for (label, length) in lengths(&shot) {
+        messages.report(&row(&shot, &label, length)?)?;
     }
-    files::print(
-        "* below the region mark: the cutter refuses it (15); what a call that breaks off there leaves is shown\n",
+    messages.report(
+        "* below the region mark: the cutter refuses it (15); what a call that breaks off there leaves is shown",
     )?;
-    files::print(&kernel_table(&shot.panel)?)?;
-    files::print(&format!("pictures and streams are in {}\n", folder.display()))
+    messages.report(&kernel_table(&shot)?)?;
+    messages.report(&format!("pictures and streams are in {}", folder.display()))?;
+    Ok(Status::Done)
 }
 
 fn choice(kernel: usize) -> Choice {
@@ -50,14 +59,14 @@ fn heading(shot: &Shot) -> String {
     format!(
         "operator panel, {} by {} samples; {} rectangles over part numbers and lamps, {inside} samples\n\
          kernel {KERNEL} ({}), J {LEVELS}; {} of {} coefficients marked; {}\n\n\
-         {:<12} {:>7} {:>8} {:>3} {:>21} {:>15} {:>13}\n",
+         {:<12} {:>7} {:>8} {:>3} {:>21} {:>15} {:>13}",
         shot.panel.width,
         shot.panel.height,
-        panel::rectangles().len() / 4,
+        panel::rectangles().len(),
         codec::KERNELS[KERNEL],
-        shot.written.marks,
+        shot.marks,
         shot.region.len(),
-        cable::RULE,
+        shot.cable.rule(),
         "cut at",
         "bytes",
         "seconds",
@@ -69,37 +78,32 @@ fn heading(shot: &Shot) -> String {
 }
 
 /// The lengths to cut at, with their names: the region mark, 1, 2, 4, 8 ... seconds, and all, in ascending order.
-fn lengths(written: &Written) -> Vec<(String, usize)> {
-    let mut found = vec![("region mark".to_string(), written.region_mark)];
+fn lengths(shot: &Shot) -> Vec<(String, usize)> {
+    let (total, a_second) = (shot.stream.bytes.len(), (shot.cable.baud / shot.cable.bits_per_byte) as usize);
+    let mut found = vec![("region mark".to_string(), shot.region_mark)];
     let mut time = 1;
-    while time * (cable::BYTES_A_SECOND as usize) < written.stream.len() {
-        found.push((format!("{time} s"), time * cable::BYTES_A_SECOND as usize));
+    while time * a_second < total {
+        found.push((format!("{time} s"), time * a_second));
         time *= 2;
     }
-    found.push(("all".to_string(), written.stream.len()));
+    found.push(("all".to_string(), total));
     found.sort_by_key(|&(_, length)| length);
     found
 }
 
-/// What arrives where a call ends below the region mark, to which the cutter does not cut: the first bytes, with the
-/// length field mended.
-fn broken_off(stream: &[u8], length: usize) -> Vec<u8> {
-    let mut part = stream[..length].to_vec();
-    part[..4].copy_from_slice(&(length as u32 - 4).to_be_bytes());
-    part
-}
-
-/// Cuts, shows and compares at one length, and writes the stream and the picture.
+/// Cuts, shows and compares at one length, and writes the stream and the picture. Below the region mark, to which the
+/// cutter does not cut, the stream is what a call that breaks off there leaves.
 fn row(shot: &Shot, label: &str, length: usize) -> Result<String, Failure> {
-    let (stream, label) = match length < shot.written.region_mark {
-        true => (broken_off(&shot.written.stream, length), format!("{label} *")),
-        false => (codec::cut(&shot.written.stream, length, label)?, label.to_string()),
+    let (bytes, label) = match length < shot.region_mark {
+        true => (shot.stream.bytes[..length].to_vec(), format!("{label} *")),
+        false => (shot.stream.cut(length, || meaning(15).to_string())?, label.to_string()),
     };
-    let reading = codec::read(&stream, &label)?;
-    let picture = shown(&reading)?;
+    let stream = Stream::of(bytes)?;
+    let reading = stream.read()?;
+    let picture = shown(&stream, &reading, &shot.messages)?;
     let name = format!("cut-{length:07}");
-    files::write(&shot.folder.join(format!("{name}.stream")), &stream)?;
-    files::write(&shot.folder.join(format!("{name}.pgm")), &picture::format(&picture, Format::Pgm).map_err(Failure::Input)?)?;
+    output::write(&shot.folder.join(format!("{name}.stream")), &stream.bytes)?;
+    write_picture(&shot.folder.join(format!("{name}.pgm")), &picture, Format::Pgm, &shot.messages)?;
     let compared = |wanted| differences(&shot.panel.samples, &picture.samples, &shot.region, wanted, picture.width);
     let (inside, outside) = (compared(1), compared(0));
     let region = match (inside.count, reading.whole) {
@@ -108,8 +112,8 @@ fn row(shot: &Shot, label: &str, length: usize) -> Result<String, Failure> {
         (count, _) => format!("{count} samples differ"),
     };
     Ok(format!(
-        "{label:<12} {length:>7} {:>8.3} {:>3} {region:>21} {:>15} {:>13.3}\n",
-        cable::seconds(length),
+        "{label:<12} {length:>7} {:>8.3} {:>3} {region:>21} {:>15} {:>13.3}",
+        shot.cable.seconds(length),
         reading.missing,
         outside.largest,
         outside.mean(),
@@ -117,23 +121,22 @@ fn row(shot: &Shot, label: &str, length: usize) -> Result<String, Failure> {
 }
 
 /// The same panel under each kernel: what the region and the whole stream take.
-fn kernel_table(panel: &Picture) -> Result<String, Failure> {
+fn kernel_table(shot: &Shot) -> Result<String, Failure> {
     let mut text = format!(
         "\n{:<12} {:>7} {:>12} {:>8} {:>8} {:>8}\n",
         "kernel", "marks", "region mark", "seconds", "all", "seconds"
     );
     for (kernel, name) in codec::KERNELS.iter().enumerate() {
-        let written = written(panel, &choice(kernel))?;
+        let written = written(&shot.panel, &choice(kernel), &shot.messages)?;
         text += &format!(
             "{:<12} {:>7} {:>12} {:>8.3} {:>8} {:>8.3}\n",
             format!("{kernel} {name}"),
             written.marks,
             written.region_mark,
-            cable::seconds(written.region_mark),
-            written.stream.len(),
-            cable::seconds(written.stream.len()),
+            shot.cable.seconds(written.region_mark),
+            written.bytes.len(),
+            shot.cable.seconds(written.bytes.len()),
         );
     }
-    text += "\n";
     Ok(text)
 }

@@ -1,64 +1,97 @@
-//! What can go wrong, and the exit status that says so.
+//! How a call ends: the exit status, and the message where something went wrong.
 
 use std::fmt;
+use std::process::ExitCode;
 
-/// Two pictures differ within the compared samples.
-pub const STATUS_DIFFERENT: u8 = 1;
-const STATUS_INPUT: u8 = 2;
-const STATUS_REFUSED: u8 = 3;
+/// The exit statuses. Of several files, the largest one counts.
+#[derive(Clone, Copy, Debug, Eq, Ord, PartialEq, PartialOrd)]
+pub enum Status {
+    Done = 0,
+    NotExact = 1,
+    Usage = 2,
+    Refused = 3,
+    InputOutput = 4,
+}
 
+/// What each status means, for the help text.
+pub const STATUSES: &str = "\
+Exit status:
+  0  done; in show, info and cut every marked bit arrived, so that every rectangle is exact;
+     in compare no sample differs
+  1  shown or told, but not exact: not every marked bit arrived or, with no rectangle, not every
+     bit of the picture; in compare a sample differs, or nothing was compared
+  2  wrong usage
+  3  refused by the codec, with the refusal's number
+  4  input or output failed: a file cannot be read or written, or does not hold what is taken
+Of several files the worst counts, in the order 4, 3, 1, 0. An interrupted call ends with 130.";
+
+impl From<Status> for ExitCode {
+    fn from(status: Status) -> ExitCode {
+        ExitCode::from(status as u8)
+    }
+}
+
+/// Why a call, or its part that works on one file, could not be done.
 #[derive(Debug)]
-pub enum Failure {
-    /// The command line is not one of those in the usage text.
-    Usage(String),
-    /// A file or a picture that cannot be used.
-    Input(String),
-    /// The codec refused: the refusal's number, and what it was about.
-    Refused(u64, String),
+pub struct Failure {
+    pub status: Status,
+    text: String,
 }
 
 impl Failure {
-    pub fn status(&self) -> u8 {
-        match self {
-            Failure::Usage(_) | Failure::Input(_) => STATUS_INPUT,
-            Failure::Refused(_, _) => STATUS_REFUSED,
-        }
+    pub fn usage(text: impl Into<String>) -> Failure {
+        let text = format!("{}\n\nFor more information try '--help'", text.into());
+        Failure { status: Status::Usage, text }
+    }
+
+    pub fn input_output(text: impl Into<String>) -> Failure {
+        Failure { status: Status::InputOutput, text: text.into() }
+    }
+
+    /// A refusal by its number, with the words that say what was refused and why.
+    pub fn refused(number: u64, words: &str) -> Failure {
+        Failure { status: Status::Refused, text: format!("refused {number}: {words}") }
+    }
+
+    /// The same failure, with the file that it is about.
+    pub fn of(self, name: &str) -> Failure {
+        Failure { text: format!("{name}: {}", self.text), ..self }
+    }
+
+    /// The same failure, with what to do about it.
+    pub fn with(self, advice: &str) -> Failure {
+        Failure { text: self.text + advice, ..self }
     }
 }
 
 impl fmt::Display for Failure {
     fn fmt(&self, f: &mut fmt::Formatter<'_>) -> fmt::Result {
-        match self {
-            Failure::Usage(text) => write!(f, "{text}\n'dhiirqobaal help' lists the commands"),
-            Failure::Input(text) => write!(f, "{text}"),
-            Failure::Refused(number, about) => {
-                write!(f, "refused {number}: {} ({about})", meaning(*number))
-            }
-        }
+        f.write_str(&self.text)
     }
 }
 
+/// The refusals' numbers and meanings, as docs/FORMAT.md and the C header have them.
+const REFUSALS: [(u64, &str); 16] = [
+    (1, "the kernel is not 0 to 3"),
+    (2, "the levels J are not 1 to 5"),
+    (3, "the depth D is not 1 to 10"),
+    (4, "width or height is not 1 to 4,096"),
+    (5, "a buffer does not have width times height elements"),
+    (6, "a sample is above 2^D - 1"),
+    (7, "there are more than 32 rectangles"),
+    (8, "a rectangle is empty or not wholly inside the picture"),
+    (9, "a region or mask byte is above 1"),
+    (10, "a coefficient's magnitude is 2^22 or more"),
+    (11, "the stream buffer is too short"),
+    (12, "the stream is shorter than its header, or its length field does not fit its length"),
+    (13, "the stream's version is not 1"),
+    (14, "the stream's plane count T is above 22"),
+    (15, "the wanted length is below the region mark or above the stream's length, or the marked part is not whole"),
+    (16, "behind the complete body there is a filling bit that is not 0, or a further byte"),
+];
+
 /// The meaning of a refusal's number.
 pub fn meaning(number: u64) -> &'static str {
-    match number {
-        1 => "the kernel is not 0 to 3",
-        2 => "the levels J are not 1 to 5",
-        3 => "the depth D is not 1 to 10",
-        4 => "width or height is not 1 to 4,096",
-        5 => "a buffer does not have width times height elements",
-        6 => "a sample is above 2^D - 1",
-        7 => "there are more than 32 rectangles",
-        8 => "a rectangle is empty or not wholly inside the picture",
-        9 => "a region or mask byte is above 1",
-        10 => "a coefficient's magnitude is 2^22 or more",
-        11 => "the stream buffer is too short",
-        12 => "the stream is shorter than its header, or its length field does not fit its length",
-        13 => "the stream's version is not 1",
-        14 => "the stream's plane count T is above 22",
-        15 => {
-            "the wanted length is below the region mark or above the stream's length, or the marked part is not whole"
-        }
-        16 => "behind the complete body there is a filling bit that is not 0, or a further byte",
-        _ => "a number that the interface does not have",
-    }
+    let found = REFUSALS.iter().find(|(refusal, _)| *refusal == number);
+    found.map_or("a number that the interface does not have", |(_, text)| text)
 }

@@ -2,41 +2,57 @@
 
 mod args;
 mod cable;
+mod causes;
 mod codec;
 mod commands;
 mod compare;
 mod demo;
 mod failure;
-mod files;
 mod font;
+mod frames;
+mod input;
+mod jobs;
+mod messages;
+mod output;
 mod panel;
+mod rectangles;
+mod report;
+mod signals;
+mod words;
 
-use args::Command;
-use failure::Failure;
-use std::ffi::OsString;
+use args::{Command, Line};
+use clap::Parser;
+use failure::{Failure, Status};
 use std::process::ExitCode;
 
 fn main() -> ExitCode {
-    let words: Vec<OsString> = std::env::args_os().skip(1).collect();
-    match run(&words) {
-        Ok(status) => ExitCode::from(status),
-        Err(failure) => {
-            files::tell(&failure.to_string());
-            ExitCode::from(failure.status())
-        }
+    let status = match Line::try_parse() {
+        Ok(line) => run(&line).unwrap_or_else(|failure| {
+            messages::tell(&failure.to_string());
+            failure.status
+        }),
+        Err(answer) => say(&answer),
+    };
+    status.into()
+}
+
+/// Says what clap answers: the help, the version, or what is wrong with the command line.
+fn say(answer: &clap::Error) -> Status {
+    match (answer.print(), answer.use_stderr()) {
+        (Err(_), _) => Status::InputOutput,
+        (Ok(()), false) => Status::Done,
+        (Ok(()), true) => Status::Usage,
     }
 }
 
-/// Runs a command line and returns the exit status.
-fn run(words: &[OsString]) -> Result<u8, Failure> {
-    match args::parse(words).map_err(Failure::Usage)? {
-        Command::Help => files::print(args::USAGE)?,
-        Command::Encode { input, output, choice } => commands::encode(&input, &output, &choice)?,
-        Command::Info { stream } => commands::info(&stream)?,
-        Command::Cut { input, output, wanted } => commands::cut(&input, &output, &wanted)?,
-        Command::Show { stream, output } => commands::show(&stream, &output)?,
-        Command::Compare { left, right, within } => return commands::compare(&left, &right, &within),
-        Command::Demo { folder } => demo::run(&folder)?,
+fn run(line: &Line) -> Result<Status, Failure> {
+    signals::prepare().map_err(|error| Failure::input_output(format!("no signal can be taken: {error}")))?;
+    match &line.command {
+        Command::Encode(args) => commands::encode::run(args, line.quiet),
+        Command::Info(args) => commands::info::run(args, line.quiet),
+        Command::Cut(args) => commands::cut::run(args, line.quiet),
+        Command::Show(args) => commands::show::run(args, line.quiet),
+        Command::Compare(args) => commands::compare::run(args, line.quiet),
+        Command::Demo(args) => demo::run(&args.folder, line.quiet),
     }
-    Ok(0)
 }

@@ -1,6 +1,7 @@
 //! Draws an operator panel: title, part numbers, lamps, gauges and buttons on a shaded plate.
 
 use crate::font;
+use crate::rectangles::Rectangle;
 use picture::Picture;
 
 pub const WIDTH: usize = 1366;
@@ -196,16 +197,11 @@ pub fn draw() -> Picture {
     Picture { width: WIDTH, height: HEIGHT, top: 255, samples }
 }
 
-/// The rectangles over part numbers and lamps: x, y, width, height of each in turn.
-pub fn rectangles() -> Vec<u32> {
-    let mut numbers = Vec::new();
-    for (x, _) in WINDOWS {
-        numbers.extend([x as u32 + 75, 123, 410, 53]);
-    }
-    for i in 0..LAMPS.len() {
-        numbers.extend([lamp_x(i) as u32 - 34, LAMP_Y as u32 - 34, 69, 69]);
-    }
-    numbers
+/// The rectangles over part numbers and lamps.
+pub fn rectangles() -> Vec<Rectangle> {
+    let window = |(x, _)| Rectangle { x: x as u64 + 75, y: 123, width: 410, height: 53 };
+    let lamp = |i| Rectangle { x: lamp_x(i) as u64 - 34, y: LAMP_Y as u64 - 34, width: 69, height: 69 };
+    WINDOWS.into_iter().map(window).chain((0..LAMPS.len()).map(lamp)).collect()
 }
 
 #[cfg(test)]
@@ -217,8 +213,8 @@ mod tests {
         let panel = draw();
         assert_eq!(panel.samples.len(), WIDTH * HEIGHT);
         assert!(panel.samples.iter().all(|&s| s <= panel.top));
-        for r in rectangles().chunks_exact(4) {
-            assert!((r[0] + r[2]) as usize <= WIDTH && (r[1] + r[3]) as usize <= HEIGHT);
+        for r in rectangles() {
+            assert!((r.x + r.width) as usize <= WIDTH && (r.y + r.height) as usize <= HEIGHT);
         }
     }
 

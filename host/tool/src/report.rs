@@ -1,0 +1,141 @@
+//! What a stream says of itself, and how much of it arrived, as text and as JSON.
+
+use crate::cable::Cable;
+use crate::codec::{Reading, Stream, KERNELS};
+use crate::failure::Status;
+use crate::rectangles::Rectangle;
+use crate::words;
+use serde_json::{json, Value};
+
+/// How many of how many bytes arrived, and whether every marked bit did.
+pub fn arrival(stream: &Stream, reading: &Reading) -> String {
+    format!("{}; {}", bytes_arrived(stream), bits_arrived(stream, reading))
+}
+
+fn bytes_arrived(stream: &Stream) -> String {
+    match (stream.bytes.len(), stream.sent) {
+        (there, sent) if there < sent => format!("{} of {} bytes arrived", words::size(there), words::size(sent)),
+        (there, _) => format!("all {} bytes arrived", words::size(there)),
+    }
+}
+
+fn bits_arrived(stream: &Stream, reading: &Reading) -> String {
+    let (rectangles, they) = match stream.setting.rectangles.len() {
+        0 => return no_rectangle(reading),
+        1 => ("the rectangle".to_string(), "it is"),
+        count => (format!("the {count} rectangles"), "they are"),
+    };
+    match reading.whole {
+        true => format!("every bit of {rectangles} arrived: {they} exact unless the link changed a bit"),
+        false => format!("not every bit of {rectangles} arrived: {they} not exact"),
+    }
+}
+
+fn no_rectangle(reading: &Reading) -> String {
+    let every = if reading.complete() { "every" } else { "not every" };
+    format!("no rectangle is marked; {every} bit of the picture arrived")
+}
+
+/// The status of a stream that was read.
+pub fn status(stream: &Stream, reading: &Reading) -> Status {
+    let exact = match stream.setting.rectangles.is_empty() {
+        true => reading.complete(),
+        false => reading.whole,
+    };
+    if exact {
+        Status::Done
+    } else {
+        Status::NotExact
+    }
+}
+
+pub fn kernel_name(kernel: usize) -> &'static str {
+    KERNELS.get(kernel).unwrap_or(&"unknown")
+}
+
+/// A stream that was read, with its name and where its body begins and how long it is.
+pub struct Told<'a> {
+    pub name: &'a str,
+    pub stream: &'a Stream,
+    pub reading: &'a Reading,
+    pub body: (usize, usize),
+    pub cable: &'a Cable,
+}
+
+/// All that `info` tells, one thing a line.
+pub fn text(told: &Told) -> String {
+    let mut lines = vec![
+        ("stream", told.name.to_string()),
+        ("bytes", bytes_arrived(told.stream)),
+        ("marked bits", bits_arrived(told.stream, told.reading)),
+    ];
+    lines.extend(header_lines(told.stream));
+    lines.extend(body_lines(told));
+    let lines: Vec<String> = lines.iter().map(|(label, value)| format!("{label:<13} {value}")).collect();
+    format!("{}\n{}", lines.join("\n"), told.cable.rule())
+}
+
+fn header_lines(stream: &Stream) -> Vec<(&'static str, String)> {
+    let setting = &stream.setting;
+    let mut lines = vec![
+        ("version", "1".to_string()),
+        ("kernel", format!("{} ({})", setting.kernel, kernel_name(setting.kernel))),
+        ("levels J", setting.levels.to_string()),
+        ("depth D", setting.depth.to_string()),
+        ("width W", setting.width.to_string()),
+        ("height H", setting.height.to_string()),
+        ("planes T", stream.planes.to_string()),
+        ("rectangles", setting.rectangles.len().to_string()),
+    ];
+    for (i, r) in setting.rectangles.iter().enumerate() {
+        lines.push(("", format!("{:<2} x {} y {} width {} height {}", i + 1, r.x, r.y, r.width, r.height)));
+    }
+    lines
+}
+
+fn body_lines(told: &Told) -> [(&'static str, String); 5] {
+    let Told { stream, reading, body, cable, .. } = told;
+    let mark = match reading.whole {
+        true => cable.length(reading.region_mark),
+        false => "not known, since not every marked bit arrived".to_string(),
+    };
+    let coefficients = words::count(stream.setting.area(), "coefficient");
+    [
+        ("marked", format!("{} of {coefficients}", words::size(reading.marks))),
+        ("region mark", mark),
+        ("length", cable.length(stream.bytes.len())),
+        ("body", format!("{}, from byte {}", words::count(body.1, "byte"), body.0)),
+        ("q", format!("{} (planes of the unmarked coefficients that did not wholly arrive)", reading.missing)),
+    ]
+}
+
+/// The same as a JSON object.
+pub fn json(told: &Told) -> Value {
+    let Told { name, stream, reading, body, cable } = told;
+    let setting = &stream.setting;
+    let rectangle = |r: &Rectangle| json!({"x": r.x, "y": r.y, "width": r.width, "height": r.height});
+    let mark = reading.whole.then_some(reading.region_mark);
+    json!({
+        "file": name,
+        "arrived": stream.bytes.len(),
+        "sent": stream.sent,
+        "kernel": setting.kernel,
+        "kernel_name": kernel_name(setting.kernel),
+        "levels": setting.levels,
+        "depth": setting.depth,
+        "width": setting.width,
+        "height": setting.height,
+        "planes": stream.planes,
+        "rectangles": setting.rectangles.iter().map(rectangle).collect::<Vec<_>>(),
+        "coefficients": setting.area(),
+        "marked": reading.marks,
+        "marked_bits_arrived": reading.whole,
+        "region_mark": mark,
+        "seconds": cable.seconds(stream.bytes.len()),
+        "region_mark_seconds": mark.map(|mark| cable.seconds(mark)),
+        "body_start": body.0,
+        "body_length": body.1,
+        "q": reading.missing,
+        "complete": reading.complete(),
+    })
+}
