@@ -8,6 +8,7 @@ set -eu
 root=$(cd "$(dirname "$0")/../.." && pwd)
 cd "$root"
 
+sh host/setup.sh
 [ -n "${INTERFACE_LIBRARY:-}" ] || rt staticlib interface
 [ -n "${COMPARISON_LIBRARY:-}" ] || rt staticlib comparison
 

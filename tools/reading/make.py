@@ -19,8 +19,8 @@ ROOT = os.path.dirname(os.path.dirname(os.path.dirname(os.path.abspath(__file__)
 PAGE = 'docs/READING.md'
 ENTRIES = [('wavelet', 'transform'), ('wavelet', 'undo'), ('region', 'region'), ('picture_mask', 'mask'), ('samples', 'show'),
            ('samples', 'truncate'), ('encoder', 'write'), ('decoder', 'read'), ('cutter', 'cut'), ('header', 'body'),
-           ('showing', 'show_stream')]
-DEMANDS = ('exactness', 'Demands', ['Demand2', 'Demand3'])
+           ('header_reader', 'read_header'), ('header', 'arrived'), ('showing', 'show_stream')]
+DEMANDS = ('exactness', 'Demands', ['Demand2', 'Demand3', 'Arrived'])
 KIT = [
     ('ℕ, zero, suc', 'natural numbers; `suc n` is n + 1'),
     ('_+_, _*_, _^_, min, max', 'as usual, on natural numbers'),
@@ -41,7 +41,7 @@ KIT = [
 LANGUAGE = '''`abbrev` and `unfoldable` begin a definition and say how the checker treats it; `λ x. e` is the function that gives e for x. A `use` of
 `Rattle.grid.specs.Picture` is of `crates/grid/specs/Picture.antt`; `specs.declared.Kernel` is the type `Kernel` of the crate's `src/lib.rt`. In a
 contract, `now (b .entry)` and `now (b .exit)` are what the buffer b holds before and after the call, r is what the call returns.'''
-PROMISES = 'The records of demands 2 and 3, and the contracts of demand 1, none of which has a `requires`.'
+PROMISES = 'The records of demands 2 and 3 and of what arrived, and the contracts of demand 1, none of which has a `requires`.'
 INNER = '''These files of `specs/` hold what only the contracts of inner functions, proofs and worked examples cite. No promise depends on them: a
 wrong definition there can make a proof fail, not a promise hollow.'''
 
@@ -271,7 +271,7 @@ Made by `tools/reading/make.py` from the code; `.ci/run` fails where it is not c
 
 The checker proves that the code meets its contracts and that the theorems hold. It cannot say whether contracts and theorems say
 what is wanted: that is for a reader, and this page leads to all of it. At its end stand the promises: the contracts of the entries and
-the records of demands 2 and 3. Above them stand the definitions on which they depend, and no others: **{len(definitions)} definitions, {sum(d.lines for d in definitions)} lines**
+the records of demands 2 and 3 and of what arrived. Above them stand the definitions on which they depend, and no others: **{len(definitions)} definitions, {sum(d.lines for d in definitions)} lines**
 in `specs/`, comments and blank lines not counted, and the {len(types)} types of the answers, {sum(t.lines for t in types)} lines in `src/`. They stand in reading order: each
 uses only what stands above it, and the types. `docs/FORMAT.md` says the same in words; behind each file stands the section to
 compare it with."""
