@@ -11,8 +11,8 @@ use Rattle.line.proofs.Cells.{by-lt}
 use Rattle.refusal.specs.Numbers.{first}
 use Rattle.header.specs.Header.{number, frontLength, badHeader}
 use Rattle.header.specs.Fields.{bytesOf}
-use Rattle.header.specs.Arrival.{cutTo, sentLength, badArrival, arrivedOf, Numbers, arrivalNumbers}
-use Rattle.header.proofs.Parts.{front-whole, front-good, good-front, good-total}
+use Rattle.header.specs.Arrival.{cutTo, sentLength, badArrival, arrivedOf, arrivalNumbers}
+use Rattle.header.proofs.Parts.{front-whole, front-good, good-total}
 use Rattle.codestream.specs.Cutting.{Bytes}
 
 -- ---- the bytes of a number that was read, and a stream cut to its own length

@@ -14,7 +14,7 @@ use native.Mathlib.Omega.{arith}
 use lib.Dec.{ltb}
 use lib.ListN.{length, getD, take, drop, length-append, length-take, length-drop}
 use lib.Seq.{getD-append-add, getD-take, getD-drop, ext-getD}
-use borrow.Author.Tests.{eq-eqb, eqb-true, not-false, ltb-false, le-ltb}
+use borrow.Author.Tests.{eq-eqb, not-false, ltb-false, le-ltb}
 use Rattle.refusal.specs.Numbers.{test, first, accepted}
 use Rattle.refusal.proofs.Ordered.{passes-test, numbered, accepted-both, accepted-join}
 use Rattle.refusal.proofs.Passed.{neither}
@@ -22,7 +22,7 @@ use Rattle.header.specs.Header.{number, frontLength, badHeader, badVersion, bod
 use Rattle.header.specs.Fields.{bytesOf, numbers, shotOf}
 use Rattle.header.specs.Arrival.{cutTo}
 use Rattle.header.proofs.Fields.{bytes-length, number-at}
-use Rattle.header.proofs.Parts.{else-length, good-front, good-total}
+use Rattle.header.proofs.Parts.{else-length, good-total}
 use Rattle.codestream.specs.Reading.{answerOf, readTests}
 use Rattle.codestream.specs.Cutting.{badCut, cutTests, Bytes}
 

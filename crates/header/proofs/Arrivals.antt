@@ -4,7 +4,7 @@ use mathlib.Core.Bool.{true, false}
 use mathlib.Core.List.{List, _++_}
 use Prim.Native.Nat.{ℕ, _+_, _-_, _<_, _≤_}
 use native.Mathlib.Omega.{arith}
-use lib.ListN.{length, drop, take}
+use lib.ListN.{length, drop}
 use lib.Seq.{take-all}
 use borrow.Author.Tests.{lt-ltb, le-ltb}
 use Rattle.refusal.specs.Numbers.{first}
@@ -13,7 +13,7 @@ use Rattle.header.specs.Writing.{Laid}
 use Rattle.header.specs.Arrival.{cutTo, sentLength, badArrival, arrivedOf, Numbers, arrivalNumbers}
 use Rattle.header.proofs.Fields.{bytes-length}
 use Rattle.header.proofs.Parts.{arrival-long}
-use Rattle.header.proofs.Writing.{in-front}
+use Rattle.header.proofs.Writing.{laid-front}
 
 module _ (l : List ℕ) where
   -- the stream cut to all of it: its length field set
@@ -36,7 +36,5 @@ module _ (l : List ℕ) where
     pub mended : {m : List ℕ} → length l < sent → Laid 0 (bytesOf 4 (length l - 4)) l m → (_≡_ {A = Numbers} (record { refusal = 0; sent = sent }) (arrivalNumbers l)) × (m ≡ arrivedOf l)
     unfolding first
     mended {m} h f =
-        let n : length (bytesOf 4 (length l - 4)) ≡ 4 = bytes-length 4 (length l - 4) in
-        let e : m ≡ bytesOf 4 (length l - 4) ++ drop 4 l
-        = in-front (bytesOf 4 (length l - 4)) l 4 n (omega (arith, arrival-long l good)) (f .len) (λ i h. let z : 0 + i ≡ i = omega arith in rw z at (f .inside i (omega arith))) (λ i h. f .behind i (omega arith)) in
+        let e = laid-front (bytesOf 4 (length l - 4)) l 4 (bytes-length 4 (length l - 4)) (omega (arith, arrival-long l good)) f in
         (told, e ∙ sym whole-cut ∙ rw (good, lt-ltb (length l) (sentLength l) (omega arith)) refl)

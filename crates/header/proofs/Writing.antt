@@ -60,6 +60,10 @@ module _ (p l : List ℕ) {m : List ℕ} (n : ℕ) (size : length p ≡ n) (room
       (λ ge. let j = i - n in let d : length p + j ≡ i = omega arith in let e : n + j ≡ i = omega arith in
       g i ge ∙ ap (λ (k : ℕ). getD l k 0) (sym e) ∙ sym (getD-drop n l j 0) ∙ sym (getD-append-add p (drop n l) j 0) ∙ ap (λ (k : ℕ). getD (p ++ drop n l) k 0) d))
 
+pub laid-front : (p l : List ℕ) {m : List ℕ} (n : ℕ) → length p ≡ n → n ≤ length l → Laid 0 p l m → m ≡ p ++ drop n l
+laid-front p l n size room f =
+    in-front p l n size room (f .len) (λ i h. let z : 0 + i ≡ i = omega arith in rw z at (f .inside i (omega arith))) (λ i h. f .behind i (omega arith))
+
 -- a field, and what follows it
 laid-field : {b k l m : List ℕ} (n x at p : ℕ) → p ≡ at + n → Laid at (bytesOf n x) k l → Laid p b l m → Laid at (bytesOf n x ++ b) k m
 laid-field n x at p e f g = laid-both at p (omega (arith, bytes-length n x)) f g

@@ -1,4 +1,4 @@
--- A codestream cut to a length, and what a call that broke off has left of one (docs/FORMAT.md, "Cutting" and "Calls").
+-- A codestream cut to a length, and what a call that broke off has left of one (docs/FORMAT.md, "Cutting", "A call that breaks off" and "Calls").
 --
 --   cutTo l c        == the stream l cut to c bytes: its first c bytes with c − 4 in the length field
 --   sentLength l     == the length that was sent, by the length field

@@ -23,7 +23,7 @@ use Rattle.codestream.specs.Reading.{headerTests, shotUnder}
 use Rattle.header_reader.specs.declared.Header.{Header}
 use Rattle.header_reader.specs.declared.Headed.{Headed}
 use Rattle.header_reader.specs.Answers.{headerFor, Chosen}
-use Rattle.header_reader.specs.Inner.{refusedWith, rectangleArray, shotTests, Set, Answered}
+use Rattle.header_reader.specs.Inner.{refusedWith, rectangleArray, shotTests, Answered}
 use Rattle.header_reader.proofs.Arrays.{numbers-length, array-front}
 use Rattle.header_reader.proofs.Tests.{settingFirst, setting-first, others-first}
 

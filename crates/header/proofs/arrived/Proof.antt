@@ -1,12 +1,12 @@
 -- `header::arrived` makes of what a call has left the stream cut to what arrived, or refuses. Assumes nothing.
-use mathlib.Core.Path.{_≡_, refl, sym, ap, _∙_}
+use mathlib.Core.Path.{_≡_, sym, ap, _∙_}
 use mathlib.Core.Bool.{false}
 use mathlib.Core.List.{List}
 use Prim.Native.Nat.{ℕ, _+_}
 use native.Mathlib.Omega.{arith}
 use borrow.Author.Needs.{needs}
 use Rattle.refusal.proofs.Ordered.{told}
-use Rattle.header.specs.Arrival.{badArrival, sentLength}
+use Rattle.header.specs.Arrival.{badArrival}
 use Rattle.header.proofs.Parts.{arrival-long}
 use Rattle.header.proofs.Arrivals.{refused, all-there, mended}
 use Rattle.header.proofs.arrived.Statement.{statement}
