@@ -1,4 +1,4 @@
-//! Grey pictures in PGM and PNG files, sample by sample: no sample is scaled or rounded on its way in or out.
+//! Grey pictures in PGM and PNG files: no sample is rounded, and what is written is read back sample by sample.
 
 mod other;
 mod pgm;
@@ -96,17 +96,28 @@ pub fn format(picture: &Picture, format: Format) -> Result<Vec<u8>, String> {
     }
 }
 
-/// What a picture's file in this format cannot say of it, if anything, for the user to be told.
+/// What a picture's file in this format cannot say of it as it is, if anything, for the user to be told.
 pub fn lost(picture: &Picture, format: Format) -> Option<String> {
-    let full = picture.full_top();
-    if format != Format::Png || picture.top == full {
+    if format != Format::Png {
         return None;
     }
-    Some(format!(
-        "PNG has no maximum value: the samples are kept, but whoever reads the file takes {full} for the maximum value \
-         in place of {}; a PGM file keeps it",
-        picture.top
-    ))
+    let (depth, full) = (picture.depth(), picture.full_top());
+    let mut told = Vec::new();
+    if png::bits(depth) != depth {
+        told.push(format!(
+            "PNG has no depth of {depth} bits: the samples are written with {}, their bits repeated, and read back here \
+             as they were; another program sees the scaled ones",
+            png::bits(depth)
+        ));
+    }
+    if picture.top != full {
+        told.push(format!(
+            "PNG has no maximum value: the samples are kept, but whoever reads the file takes {full} for the maximum \
+             value in place of {}",
+            picture.top
+        ));
+    }
+    (!told.is_empty()).then(|| told.join("; ") + "; a PGM file keeps it")
 }
 
 #[cfg(test)]
@@ -145,9 +156,15 @@ mod tests {
     }
 
     #[test]
-    fn the_maximum_value_alone_is_lost_and_in_png_alone() {
-        for top in [1, 3, 255, 1023, 65535] {
+    fn what_png_cannot_say_is_told() {
+        for top in [1, 3, 15, 255, 65535] {
             assert_eq!(lost(&picture(1, 1, top, vec![0]), Format::Png), None);
+        }
+        for (top, bits) in [(7, "with 4,"), (31, "with 8,"), (511, "with 16,"), (1023, "with 16,")] {
+            let deep = picture(1, 1, top, vec![top]);
+            assert_eq!(lost(&deep, Format::Pgm), None);
+            let told = lost(&deep, Format::Png).unwrap();
+            assert!(told.contains(bits) && !told.contains("maximum"), "{told}");
         }
         for (top, full) in [(2, "takes 3 "), (200, "takes 255 "), (1000, "takes 1023 "), (65534, "takes 65535 ")] {
             let odd = picture(1, 1, top, vec![top]);

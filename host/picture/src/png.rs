@@ -160,16 +160,25 @@ pub fn format(picture: &Picture) -> Result<Vec<u8>, String> {
     }
 }
 
-fn write(picture: &Picture, file: &mut Vec<u8>) -> Result<(), EncodingError> {
-    let depth = picture.depth() as u32;
-    let bit_depth = match depth {
+/// The least depth of PNG that holds a depth.
+fn bit_depth(depth: usize) -> BitDepth {
+    match depth {
         0..=1 => BitDepth::One,
         2 => BitDepth::Two,
         3..=4 => BitDepth::Four,
         5..=8 => BitDepth::Eight,
         _ => BitDepth::Sixteen,
-    };
-    let bits = bit_depth as u32;
+    }
+}
+
+/// The bits that a sample of a depth has in a PNG file.
+pub fn bits(depth: usize) -> usize {
+    bit_depth(depth) as usize
+}
+
+fn write(picture: &Picture, file: &mut Vec<u8>) -> Result<(), EncodingError> {
+    let bit_depth = bit_depth(picture.depth());
+    let (depth, bits) = (picture.depth() as u32, bit_depth as u32);
     // PNG has sides of 1 to 2^31 - 1; the encoder turns 0 back.
     let side = |side: usize| i32::try_from(side).map_or(0, i32::unsigned_abs);
     let mut encoder = Encoder::new(file, side(picture.width), side(picture.height));

@@ -95,3 +95,18 @@ pub fn meaning(number: u64) -> &'static str {
     let found = REFUSALS.iter().find(|(refusal, _)| *refusal == number);
     found.map_or("a number that the interface does not have", |(_, text)| text)
 }
+
+#[cfg(test)]
+mod tests {
+    use super::*;
+
+    /// The C header's texts of 3 and 7 go on with causes that the tool cannot meet.
+    #[test]
+    fn the_c_header_begins_its_texts_with_the_same_words() {
+        let header = include_str!("../../include/dhiirqobaal.h");
+        for (number, text) in REFUSALS {
+            assert!(header.contains(&format!("case {number}: return \"{text}")), "{number}: {text}");
+        }
+        assert!(header.contains(&format!("default: return \"{}\"", meaning(17))));
+    }
+}
