@@ -35,6 +35,7 @@ static int as_the_reader_says(const struct shot *shot, size_t length, const uint
 
 /* Every length from the header's end on. */
 static void check_broken_off(const struct shot *shot) {
+    int accepted = 1, bytes = 1, sent = 1, cut = 1, read = 1;
     size_t length;
     for (length = 14 + 2 * shot->numbers_len; length <= shot->length; length++) {
         uint8_t part[MOST_BYTES + 1], right[MOST_BYTES];
@@ -42,39 +43,47 @@ static void check_broken_off(const struct shot *shot) {
         memcpy(part, shot->stream, length);
         part[length] = STALE;
         cut_by_hand(shot, length, right);
-        expect(dhiirqobaal_arrived(part, length, results, 2) == DHIIRQOBAAL_ACCEPTED, shot->name);
-        expect(memcmp(part, right, length) == 0 && part[length] == STALE, "the bytes of what arrived");
-        expect(results[DHIIRQOBAAL_ARRIVED_SENT] == shot->length && results[1] == STALE, "the length that was sent");
-        expect(as_the_cutter(shot, length, part), "what arrived, beside the cutter");
-        expect(as_the_reader_says(shot, length, part), "what arrived, read");
+        accepted &= dhiirqobaal_arrived(part, length, results, 2) == DHIIRQOBAAL_ACCEPTED;
+        bytes &= memcmp(part, right, length) == 0 && part[length] == STALE;
+        sent &= results[DHIIRQOBAAL_ARRIVED_SENT] == shot->length && results[1] == STALE;
+        cut &= as_the_cutter(shot, length, part);
+        read &= as_the_reader_says(shot, length, part);
     }
+    expect(accepted, shot->name);
+    expect(bytes, "the bytes of what arrived");
+    expect(sent, "the length that was sent");
+    expect(cut, "what arrived, beside the cutter");
+    expect(read, "what arrived, read");
 }
 
-/* Refused with 12, nothing is changed and the result number is 0. */
-static void expect_refused(const uint8_t *bytes, size_t length, const char *step) {
+/* Whether the bytes are refused with 12, nothing is changed and the result number is 0. */
+static int refused(const uint8_t *bytes, size_t length) {
     uint8_t part[MOST_BYTES + 1];
     uint64_t results[1] = {STALE};
     memcpy(part, bytes, length);
-    expect(dhiirqobaal_arrived(part, length, results, 1) == DHIIRQOBAAL_BAD_HEADER, step);
-    expect(memcmp(part, bytes, length) == 0 && results[0] == 0, step);
+    return dhiirqobaal_arrived(part, length, results, 1) == DHIIRQOBAAL_BAD_HEADER && memcmp(part, bytes, length) == 0 &&
+           results[0] == 0;
 }
 
 static void check_refused(const struct shot *wide) {
     uint8_t bytes[MOST_BYTES + 1] = {0};
+    int fewer = 1, inside = 1;
     size_t length;
     for (length = 0; length < 14; length++) {
-        expect_refused(wide->stream, length, "fewer than 14 bytes");
+        fewer &= refused(wide->stream, length);
     }
     for (length = 14; length < 22; length++) {
-        expect_refused(wide->stream, length, "a header cut inside its rectangle");
+        inside &= refused(wide->stream, length);
     }
+    expect(fewer, "fewer than 14 bytes");
+    expect(inside, "a header cut inside its rectangle");
     memcpy(bytes, wide->stream, 54);
-    expect_refused(bytes, 55, "a byte more than the length field says");
+    expect(refused(bytes, 55), "a byte more than the length field says");
     bytes[3] = 0;
-    expect_refused(bytes, 22, "a length field of 0");
+    expect(refused(bytes, 22), "a length field of 0");
     bytes[3] = 50;
     bytes[12] = 255;
-    expect_refused(bytes, 54, "a header of 255 rectangles");
+    expect(refused(bytes, 54), "a header of 255 rectangles");
 }
 
 /* The version byte, the rest of the header and the body are not looked at. */
@@ -84,7 +93,7 @@ static void check_any_content(const struct shot *wide) {
     uint64_t results[1];
     memcpy(bytes, wide->stream, 22);
     bytes[4] = 2;
-    expect_refused(bytes, 21, "another version, a header cut inside its rectangle");
+    expect(refused(bytes, 21), "another version, a header cut inside its rectangle");
     memcpy(before, bytes, 22);
     expect(dhiirqobaal_arrived(bytes, 22, results, 0) == DHIIRQOBAAL_ACCEPTED, "another version, no cell for the result");
     expect(bytes[3] == 18 && memcmp(bytes + 4, before + 4, 18) == 0, "another version: the bytes");

@@ -40,23 +40,25 @@ static void check_numbers(const struct shot *shot) {
 /* Results arrays of any length: a cell that is not there is not written. */
 static void check_lengths(const struct shot *wide) {
     uint64_t results[CELLS];
+    int accepted = 1, kept = 1, given = 1;
     size_t length, i;
     for (length = 0; length < CELLS; length++) {
-        int kept = 1;
         make_stale(results);
-        expect(dhiirqobaal_header(wide->stream, wide->length, results, length) == DHIIRQOBAAL_ACCEPTED, "a short results array");
+        accepted &= dhiirqobaal_header(wide->stream, wide->length, results, length) == DHIIRQOBAAL_ACCEPTED;
         for (i = length; i < CELLS; i++) {
-            kept = kept && results[i] == STALE;
+            kept &= results[i] == STALE;
         }
-        expect(kept && (length <= 3 || (results[3] == 8 && results[2] == 8)), "a short results array: its cells");
+        given &= length <= 3 || (results[3] == 8 && results[2] == 8);
     }
+    expect(accepted, "a short results array");
+    expect(kept, "a short results array: no cell behind it");
+    expect(given, "a short results array: its cells");
 }
 
 static void expect_refused(const uint8_t *stream, size_t length, uint64_t refusal, const char *step) {
     uint64_t results[CELLS];
     make_stale(results);
-    expect(dhiirqobaal_header(stream, length, results, CELLS) == refusal, step);
-    expect(has(results, NULL, 0), step);
+    expect(dhiirqobaal_header(stream, length, results, CELLS) == refusal && has(results, NULL, 0), step);
 }
 
 /* One byte of the worked stream of 8 by 4 samples changed. */
@@ -163,13 +165,15 @@ void check_texts(void) {
         "inside the picture", "mask byte", "2^22", "too short", "length field", "version", "T is above 22", "region mark",
         "filling bit", "does not have"};
     uint64_t number, other;
+    int apart = 1;
     for (number = 0; number <= 17; number++) {
         const char *text = dhiirqobaal_refusal_text(number);
         expect(strstr(text, words[number]) != NULL, words[number]);
         for (other = 0; other < number; other++) {
-            expect(strcmp(text, dhiirqobaal_refusal_text(other)) != 0, "two numbers with one text");
+            apart &= strcmp(text, dhiirqobaal_refusal_text(other)) != 0;
         }
     }
+    expect(apart, "each number has a text of its own");
     expect(strcmp(dhiirqobaal_refusal_text(0), "accepted") == 0, "the text of 0");
     expect(strcmp(dhiirqobaal_refusal_text(UINT64_MAX), dhiirqobaal_refusal_text(17)) == 0, "the text of a number that is none");
 }
