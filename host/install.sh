@@ -2,7 +2,8 @@
 # Builds and installs the tool with its man page, the C header and the static library with its pkg-config file:
 #     sh host/install.sh PREFIX
 # The library is proved and built, unless INTERFACE_LIBRARY names one; the tool is built for release, unless TOOL_PROGRAM
-# names one. With DESTDIR every file goes below that folder, as packages are made; the pkg-config file names PREFIX alone.
+# names one, and for that host/setup.sh installs the Debian packages that are missing. With DESTDIR every file goes
+# below that folder, as packages are made; the pkg-config file names PREFIX alone.
 # Every file is complete before it takes its name, so that a failure leaves an old file as it was.
 # Where only root may write to PREFIX, build as yourself (by installing elsewhere), then install what is built:
 #     sudo INTERFACE_LIBRARY=target/staticlib/libinterface.a TOOL_PROGRAM=target/host/release/dhiirqobaal \
@@ -36,8 +37,11 @@ whole() {
 
 prefix=$(whole "$1")
 prefix=${prefix%/}
+case $prefix in
+*[\#\$\"]*) fail 2 "a PREFIX with #, \$ or \" cannot stand in a pkg-config file" ;;
+esac
 place=${DESTDIR:+$(whole "$DESTDIR")}$prefix
-root=$(whole "$(dirname "$0")/..")
+root=$(realpath -- "$(dirname -- "$(realpath -- "$0")")/..")
 library=$(whole "${INTERFACE_LIBRARY:-$root/target/staticlib/libinterface.a}")
 CARGO_TARGET_DIR=$(whole "${CARGO_TARGET_DIR:-$root/target/host}")
 export CARGO_TARGET_DIR
@@ -51,14 +55,15 @@ for folder in bin include lib lib/pkgconfig share/man/man1; do
     fi
 done
 
-sh host/setup.sh
 if [ -n "${INTERFACE_LIBRARY:-}" ]; then
     export INTERFACE_LIBRARY="$library"
 else
     rt staticlib interface
 fi
-[ -n "${TOOL_PROGRAM:-}" ] ||
+if [ -z "${TOOL_PROGRAM:-}" ]; then
+    sh host/setup.sh
     cargo build --release --offline --quiet --jobs 2 --manifest-path host/Cargo.toml -p dhiirqobaal
+fi
 
 header=host/include/dhiirqobaal.h
 manual=host/tool/man/dhiirqobaal.1

@@ -4,13 +4,14 @@
  * The library is a static one, target/staticlib/libinterface.a in the repository, made by `rt staticlib interface`.
  * `sh host/install.sh PREFIX` installs it as PREFIX/lib/libdhiirqobaal.a, with this header and a pkg-config file:
  *   cc program.c $(pkg-config --cflags --libs dhiirqobaal)
- * docs/FORMAT.md has the format with its formulas and worked examples.
+ * docs/FORMAT.md of the repository, which is not installed, has the format with its formulas and worked examples.
  *
  * TERMS
  *   W, H       width and height of a picture, 1 to 4,096 each
  *   J          levels, 1 to 5, whatever W and H are
  *   D          depth in bits, 1 to 10; a sample is 0 to 2^D - 1
- *   kernel     0 S, 1 S+P (A), 2 TT, its lines reflected at their ends, 3 the reversible 5/3 of ITU-T T.800 on a line.
+ *   kernel     0 S, 1 S+P (A), 2 TT, the lows of a line reflected at its ends, 3 the reversible 5/3 of ITU-T T.800 on
+ *              a line.
  *              Unlike T.800, rows are transformed before columns and no level shift is made, so that the planes of
  *              kernel 3 are not those of a JPEG 2000 encoder
  *   rectangle  four numbers, x, y, width and height; (0, 0) is the upper left sample
@@ -34,13 +35,15 @@
  *
  * BUFFERS
  * A buffer is a pointer followed by its number of ELEMENTS (not bytes). The pointer is never null, not even for an
- * empty buffer, is aligned for its element, and leads to that many initialised elements. A buffer that is written
- * overlaps no other buffer of the call. Nothing is kept after a call. No buffer is lengthened or shortened.
+ * empty buffer, is aligned for its element, and leads to that many elements; those that a call only writes may hold
+ * anything before it. A buffer that is written overlaps no other buffer of the call. Nothing is kept after a call. No
+ * buffer is lengthened or shortened.
  *
  * REFUSALS
- * Every function but dhiirqobaal_version returns 0 (accepted) or the number of a refusal. No input has to be tested
- * before a call. A function has the refusals that its description lists. They are tested in the listed order, and the
- * first whose condition holds is returned; where none does, the call is accepted. dhiirqobaal_refusal_text gives each
+ * Every function but dhiirqobaal_version and dhiirqobaal_refusal_text returns 0 (accepted) or the number of a refusal.
+ * No number and no content of a buffer has to be tested before a call; pointers, lengths and overlaps are the caller's
+ * (BUFFERS). A function has the refusals that its description lists. They are tested in the listed order, and the first
+ * whose condition holds is returned; where none does, the call is accepted. dhiirqobaal_refusal_text gives each
  * number's meaning as a text.
  *
  *    1  kernel not 0 to 3
@@ -53,7 +56,7 @@
  *    8  a rectangle is empty (width or height 0) or not wholly inside the picture
  *    9  a region or mask byte above 1
  *   10  a coefficient with a magnitude of 2^22 or more
- *   11  the stream buffer is too short; results[0] is the needed length
+ *   11  the stream buffer (in dhiirqobaal_cut: out) is too short; results[0] is the needed length
  *   12  the stream has fewer than 14 bytes or, under any version byte, fewer than 14 + 8k (k is its rectangle
  *       count), or its length field is not its length less 4 (in dhiirqobaal_arrived: is smaller than that)
  *   13  the stream's version is not 1
@@ -102,25 +105,28 @@
  *   3. dhiirqobaal_read gives plane and mask; results[DHIIRQOBAAL_READ_WHOLE] is 1 if every marked bit arrived.
  *   4. dhiirqobaal_undo and dhiirqobaal_show, with the header's numbers, give the picture.
  * A whole stream and one that dhiirqobaal_cut gave take the same way: dhiirqobaal_arrived leaves them as they are.
+ * dhiirqobaal_arrived overwrites the length field, so that with more bytes behind them they are refused (12). To show a
+ * stream while more of it comes in, work on a copy, or put results[0] - 4 back into the field before the next call.
  *
  * THE LINK
  * The bytes must arrive unchanged, in their order, none left out. The format has no check sum: a changed bit is read as
  * it stands, and mostly no refusal and no result number tells of it. Where the link can change or lose bytes, send the
  * stream inside a protocol that notices and repeats: ZMODEM on a serial line (or XMODEM with CRC, which fills its last
- * block: hand on the length field plus 4 bytes alone), TLS or SSH on a network, or frames of your own with a CRC-32
- * each, sent again until they arrive whole. Hand on only what passed its check: a part that failed it, and all that
- * came behind it, must not reach these functions. What came before it is a call that broke off, as above.
+ * block: hand on no more than the first n + 4 bytes, n being the number in the length field), TLS or SSH on a network,
+ * or frames of your own with a CRC-32 each, sent again until they arrive whole. Hand on only what passed its check: a
+ * part that failed it, and all that came behind it, must not reach these functions. What came before it is a call that
+ * broke off, as above.
  *
  * CALLING
  * The library is x86-64 code, position-independent, that follows the System V ABI: the stack pointer is aligned to 16
  * bytes at the call, the direction flag is clear. It needs two functions from outside, memcpy and memset, of the C
  * library or of the program; it allocates nothing, makes no system call and has no variable of its own. It may be
- * called from several threads at once, each with buffers of its own: no buffer that one call writes is used by another
- * meanwhile.
+ * called from several threads at once: no buffer that one call writes is used by another meanwhile, and buffers that
+ * are only read may be shared.
  *
- * Its working memory is on the stack. Each description says how many bytes below the caller's stack pointer a call
- * needs at most (DHIIRQOBAAL_STACK_READ and so on), with memcpy and memset of the GNU C library; host/stack measures
- * them on pictures of 4,096 by 4,096, 4,095 by 61 and 61 by 4,095 with five levels, and calls each function on a thread
+ * Its working memory is on the stack. Each function's description says how many bytes below the caller's stack pointer
+ * a call needs at most (DHIIRQOBAAL_STACK_READ and so on), with memcpy and memset of the GNU C library; host/stack
+ * measures them on pictures of 4,096 by 4,096, 4,095 by 61 and 61 by 4,095 with five levels, and calls each function on a thread
  * that has little more. Every page of a large frame is touched in turn, so that one guard page below the stack is
  * enough. A program that looks up memcpy and memset at their first call needs more in that call: link it with -z now.
  *
@@ -131,11 +137,13 @@
  *     kernel_fpu_begin() and kernel_fpu_end() around the calls on Linux, FXSAVE and FXRSTOR elsewhere.
  *   - The red zone: the functions use up to 128 bytes below the stack pointer. An interrupt or exception that is taken
  *     on the same stack in kernel mode overwrites them, and the call then gives wrong numbers or crashes. Let every
- *     interrupt and exception switch to another stack (an interrupt stack table entry), or keep interrupts off during
- *     the call, with all of its memory resident.
+ *     interrupt and exception switch to another stack (an interrupt stack table entry); or keep interrupts off during
+ *     the call with all of its memory resident, and give NMI, machine check and debug exception, which cannot be kept
+ *     off, an entry each.
  *   - The stack: a kernel's own is usually too small (16 KiB a thread on Linux). Switch to one of the stated size.
  *   - Indirect branch tracking: the code has jump tables and no ENDBR64 instruction; it has to be off.
- * Where that cannot be had, call the library from a process in user mode, where none of this is needed.
+ * Where that cannot be had, call the library from a process in user mode, where memcpy, memset and the stated stack are
+ * all that it needs.
  */
 #ifndef DHIIRQOBAAL_H
 #define DHIIRQOBAAL_H
@@ -177,7 +185,7 @@ extern "C" {
 #define DHIIRQOBAAL_STACK_HEADER 4096
 #define DHIIRQOBAAL_STACK_VERSION 1024
 
-/* What every function but dhiirqobaal_version returns. */
+/* What the functions return that refuse. */
 enum dhiirqobaal_refusal {
     DHIIRQOBAAL_ACCEPTED = 0,
     DHIIRQOBAAL_BAD_KERNEL = 1,
@@ -371,9 +379,9 @@ uint64_t dhiirqobaal_truncate(size_t q, size_t w, size_t h, const uint8_t *mask,
  * Accepted: mask holds the mask; stream begins with the stream, and its bytes past the total length hold what they
  * held.
  * Under 11: mask holds the mask, stream holds what it held, results[0] is the needed length, results[1] and
- * results[2] are 0. A call with an empty stream buffer (stream_len 0) thus asks for the length. It needs all the rest
- * of a call: a stream pointer that is not null, the mask buffer of W * H bytes, which the call fills with the mask, and
- * a cell of results.
+ * results[2] are 0. A call with an empty stream buffer (stream_len 0) thus asks for the length. All else must be as in
+ * a full call: a stream pointer that is not null, the mask buffer of W * H bytes, which the call fills with the mask,
+ * and a cell of results.
  * Under 1, 2, 3, 4, 7, 8, 5 and 10: mask and stream hold what they held, results[0] to results[2] are 0.
  * It needs at most 40,960 bytes of stack, DHIIRQOBAAL_STACK_WRITE.
  */

@@ -1,7 +1,8 @@
 /*
  * A bench program as one would write it against the installed library: shows what has arrived of a stream, whole or
- * broken off. Prints how many bytes arrived, whether every bit of the rectangles did, and the picture's rows.
- * Usage: bench STREAM. Exit status: 0 every marked bit arrived, 1 not every one, 2 wrong usage or no file, 3 refused.
+ * broken off. Prints how many bytes arrived, whether every bit of the rectangles did (with no rectangle, of the
+ * picture), and the picture's rows.
+ * Usage: bench STREAM. Exit status: 0 every such bit arrived, 1 not every one, 2 wrong usage or no file, 3 refused.
  */
 #include <dhiirqobaal.h>
 #include <stdio.h>
@@ -48,7 +49,20 @@ static void print_rows(const uint16_t *shown, size_t w, size_t h)
     }
 }
 
-/* Shows the stream and returns whether every marked bit arrived. */
+/* Says whether every bit of the rectangles arrived; with no rectangle nothing is exact, and it is the picture's bits. */
+static int tell(const uint64_t *read)
+{
+    int whole = read[DHIIRQOBAAL_READ_WHOLE] == 1;
+    if (read[DHIIRQOBAAL_READ_COUNT] == 0) {
+        whole = whole && read[DHIIRQOBAAL_READ_Q] == 0;
+        printf("no rectangle: %s bit of the picture arrived\n", whole ? "every" : "not every");
+    } else {
+        puts(whole ? "exact: every marked bit arrived" : "not exact: not every marked bit arrived");
+    }
+    return whole;
+}
+
+/* Shows the stream and returns whether all that counts arrived. */
 static int show(uint8_t *stream, size_t length)
 {
     uint64_t sent[DHIIRQOBAAL_ARRIVED_RESULTS], header[DHIIRQOBAAL_HEADER_RESULTS], read[DHIIRQOBAAL_READ_RESULTS];
@@ -63,13 +77,13 @@ static int show(uint8_t *stream, size_t length)
                           cells, undone, cells));
     need(dhiirqobaal_show((size_t)header[DHIIRQOBAAL_HEADER_DEPTH], w, h, undone, cells, shown, cells));
     printf("%zu of %llu bytes arrived\n", length, (unsigned long long)sent[DHIIRQOBAAL_ARRIVED_SENT]);
-    puts(read[DHIIRQOBAAL_READ_WHOLE] ? "exact: every marked bit arrived" : "not exact: not every marked bit arrived");
+    int whole = tell(read);
     print_rows(shown, w, h);
     free(plane);
     free(undone);
     free(mask);
     free(shown);
-    return read[DHIIRQOBAAL_READ_WHOLE] == 1;
+    return whole;
 }
 
 int main(int count, char **words)

@@ -59,6 +59,9 @@ wrong_usage() {
     expect "an empty PREFIX" ends 2 'not a folder' install_under ''
     expect "two folders" ends 2 'one PREFIX is needed' install_under a b
     expect "an option" ends 2 'not a folder' install_under --prefix=a
+    for sign in '#' '$' '"'; do
+        expect "a PREFIX with $sign" ends 2 'pkg-config' install_under "a${sign}b"
+    done
     expect "help" ends 0 'usage: sh host/install.sh PREFIX' install_under --help
     expect "wrong usage leaves nothing" same "$(find . -mindepth 1 ! -name output ! -name printed)" ''
 }
@@ -130,6 +133,10 @@ bench() {
     expect "35 bytes" ends 1 'not exact' ./bench part.35
     expect "22 bytes, the header alone" ends 1 '22 of 54 bytes arrived' ./bench part.22
     expect "21 bytes" ends 3 'refused 12: the stream is shorter than its header' ./bench part.21
+    expect "no rectangle" place/bin/dhiirqobaal encode panel.pgm bare.stream
+    head -c 20 bare.stream >bare.part
+    expect "no rectangle, whole" ends 0 'no rectangle: every bit of the picture arrived' ./bench bare.stream
+    expect "no rectangle, broken off" ends 1 'no rectangle: not every bit of the picture arrived' ./bench bare.part
     { cat panel.stream && echo; } >longer
     expect "55 bytes" ends 3 'refused 12' ./bench longer
 }

@@ -72,17 +72,24 @@ impl Format {
             _ => None,
         }
     }
+
+    /// The format of a file that is taken, by what it begins with.
+    pub fn of_file(file: &[u8]) -> Option<Format> {
+        match file {
+            [b'P', b'5', ..] => Some(Format::Pgm),
+            [b'P', b'2', ..] => Some(Format::PlainPgm),
+            _ => file.starts_with(png_chunks::SIGNATURE).then_some(Format::Png),
+        }
+    }
 }
 
 /// Takes the bytes of a picture's file; what it begins with decides which format it is in. The message says what is
 /// wrong and what to do, without the file's name.
 pub fn parse(file: &[u8]) -> Result<Picture, String> {
-    if file.starts_with(png_chunks::SIGNATURE) {
-        png::parse(file)
-    } else if file.starts_with(b"P5") || file.starts_with(b"P2") {
-        pgm::parse(file)
-    } else {
-        Err(other::message(file))
+    match Format::of_file(file) {
+        Some(Format::Png) => png::parse(file),
+        Some(Format::Pgm | Format::PlainPgm) => pgm::parse(file),
+        None => Err(other::message(file)),
     }
 }
 

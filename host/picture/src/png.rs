@@ -23,8 +23,8 @@ const COLOUR: &str =
 const ALPHA: &str =
     "the PNG picture has an alpha channel, and no transparency is carried: 'pngtopnm -mix IN > OUT.pgm' (netpbm) mixes \
      it with its background";
-const ALPHA_IN_COLOUR: &str =
-    "the PNG picture has colours and an alpha channel; colour waits for a later version, and no transparency is \
+const TRANSPARENT_COLOUR: &str =
+    "the PNG picture has colours and transparency; colour waits for a later version, and no transparency is \
      carried: 'pngtopnm -mix IN | ppmtopgm > OUT.pgm' (netpbm) makes it grey, mixed with its background";
 const TRANSPARENT: &str = "the PNG picture has a transparent value (tRNS), and no transparency is carried: \
      'pngtopnm -mix IN | ppmtopgm > OUT.pgm' (netpbm) mixes it with its background";
@@ -57,8 +57,8 @@ fn words(error: DecodingError) -> String {
 
 fn check_kind(info: &Info, chunks: &Chunks) -> Result<(), String> {
     match info.color_type {
-        ColorType::Rgb | ColorType::Indexed => Err(COLOUR.to_string()),
-        ColorType::Rgba => Err(ALPHA_IN_COLOUR.to_string()),
+        ColorType::Rgb | ColorType::Indexed if !chunks.transparent => Err(COLOUR.to_string()),
+        ColorType::Rgb | ColorType::Indexed | ColorType::Rgba => Err(TRANSPARENT_COLOUR.to_string()),
         ColorType::GrayscaleAlpha => Err(ALPHA.to_string()),
         ColorType::Grayscale if chunks.transparent => Err(TRANSPARENT.to_string()),
         ColorType::Grayscale => Ok(()),
@@ -126,23 +126,28 @@ fn widened(sample: u16, few: u32, bits: u32) -> u16 {
     (wide | u32::from(sample) >> (few - room)) as u16
 }
 
-/// A sample of `few` bits as one of `bits`: in proportion, rounded, the other way that PNG's specification gives.
+/// A sample of `few` bits as one of `bits`: in proportion, rounded, another way that PNG's specification gives.
 /// Other programs write such files.
 fn rounded(sample: u16, few: u32, bits: u32) -> u16 {
     let (from, to) = ((1u64 << few) - 1, (1u64 << bits) - 1);
     ((2 * u64::from(sample) * to + from) / (2 * from)) as u16
 }
 
+/// A sample of `few` bits as one of `bits`: zeros behind it, the third way.
+fn shifted(sample: u16, few: u32, bits: u32) -> u16 {
+    sample << (bits - few)
+}
+
 /// The samples with the bits that are significant, and the number of these bits, where all samples were made of them in
-/// one of the two ways; else as they stand.
+/// one of the three ways; else as they stand.
 fn narrowed(samples: Vec<u16>, significant: Option<u32>, bits: u32) -> (Vec<u16>, u32) {
     let Some(few) = significant.filter(|&few| 0 < few && few < bits) else {
         return (samples, bits);
     };
-    // Both ways keep the sample in the highest bits.
+    // Each way keeps the sample in the highest bits.
     let high: Vec<u16> = samples.iter().map(|s| s >> (bits - few)).collect();
     let made_by = |way: fn(u16, u32, u32) -> u16| high.iter().map(|&s| way(s, few, bits)).eq(samples.iter().copied());
-    if made_by(widened) || made_by(rounded) {
+    if made_by(widened) || made_by(rounded) || made_by(shifted) {
         (high, few)
     } else {
         (samples, bits)

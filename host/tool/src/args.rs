@@ -8,23 +8,24 @@ use crate::codec::KERNELS;
 use crate::failure::STATUSES;
 use crate::rectangles::Rectangle;
 use crate::words::number;
-use clap::{value_parser, ArgGroup, Args, Parser, Subcommand, ValueEnum};
+use clap::{ArgGroup, Args, Parser, Subcommand, ValueEnum};
 use picture::Format;
+use std::ops::RangeInclusive;
 use std::path::PathBuf;
 
 /// Panel shots whose marked rectangles arrive exactly
 ///
 /// A picture becomes one stream of bit planes, those of up to 32 rectangles first. The stream may be
 /// cut at any byte from its region mark on, by 'cut' or by a call that breaks off: the rectangles
-/// are exact, and the rest gets better with every byte. The link must deliver bytes unchanged: a
-/// changed bit cannot be seen. A file name '-' is standard input or standard output.
+/// are exact, and the rest gets better with every byte. The link must deliver bytes unchanged:
+/// mostly nothing shows a changed bit. A file name '-' is standard input or standard output.
 #[derive(Parser)]
 #[command(verbatim_doc_comment)]
 #[command(name = "dhiirqobaal", version, propagate_version = true, subcommand_required = true)]
-#[command(arg_required_else_help = true, after_help = STATUSES)]
+#[command(arg_required_else_help = true, disable_help_subcommand = true, after_help = STATUSES)]
 pub struct Line {
     /// Say nothing but failures; the exit status tells the rest
-    #[arg(short, long, global = true, display_order = 900)]
+    #[arg(short, long, global = true, display_order = 900, overrides_with = "quiet")]
     pub quiet: bool,
     #[command(subcommand)]
     pub command: Command,
@@ -38,6 +39,7 @@ pub enum Command {
     Show(Show),
     Compare(Compare),
     Demo(Demo),
+    Help(Help),
 }
 
 /// Make a stream of a picture
@@ -66,6 +68,7 @@ pub enum Command {
 /// depends on the picture: where many of one kind are sent, encode one under each kernel and level
 /// count, and take the one whose 'info' has the fewest planes T and the earliest region mark.
 #[derive(Args)]
+#[command(display_name = "dhiirqobaal")]
 #[command(after_help = STATUSES, verbatim_doc_comment)]
 #[command(override_usage = "dhiirqobaal encode [OPTIONS] IN OUT\n       dhiirqobaal encode [OPTIONS] --into DIR IN...")]
 pub struct Encode {
@@ -73,7 +76,7 @@ pub struct Encode {
     #[arg(value_name = "FILE", required = true)]
     pub files: Vec<PathBuf>,
     /// Write the stream of each picture to DIR, its ending replaced by .stream
-    #[arg(long, value_name = "DIR")]
+    #[arg(long, value_name = "DIR", allow_hyphen_values = true)]
     pub into: Option<PathBuf>,
     #[command(flatten)]
     pub marked: Marked,
@@ -93,9 +96,10 @@ pub struct Encode {
 /// Tell what a stream says of itself, and how much of it arrived
 ///
 /// A file that is shorter than its length field says is what a call that broke off has left: it is
-/// taken as the stream cut to what arrived. A bit that was changed on the way cannot be seen by any
-/// reader of this format: that all marked bits arrived does not say that they are right.
+/// taken as the stream cut to what arrived. A bit that was changed on the way is mostly not seen by
+/// any reader of this format: that all marked bits arrived does not say that they are right.
 #[derive(Args)]
+#[command(display_name = "dhiirqobaal")]
 #[command(after_help = STATUSES, verbatim_doc_comment)]
 pub struct Info {
     /// The streams, '-' for standard input
@@ -113,6 +117,7 @@ pub struct Info {
 /// A length below the region mark or above the stream's own is refused (15). The input may be what
 /// a call that broke off has left.
 #[derive(Args)]
+#[command(display_name = "dhiirqobaal")]
 #[command(after_help = STATUSES, verbatim_doc_comment)]
 #[command(group(ArgGroup::new("wanted").required(true).args(["length", "mark", "seconds"])))]
 #[command(override_usage = "dhiirqobaal cut [OPTIONS] <--length BYTES|--mark|--seconds S> IN OUT
@@ -122,7 +127,7 @@ pub struct Cut {
     #[arg(value_name = "FILE", required = true)]
     pub files: Vec<PathBuf>,
     /// Write each cut stream to DIR, under the name of its stream
-    #[arg(long, value_name = "DIR")]
+    #[arg(long, value_name = "DIR", allow_hyphen_values = true)]
     pub into: Option<PathBuf>,
     /// Cut to this many bytes
     #[arg(long, value_name = "BYTES", value_parser = whole, allow_hyphen_values = true)]
@@ -142,6 +147,7 @@ pub struct Cut {
 /// The input may be what a call that broke off has left. The picture is written as PNG where OUT
 /// ends in .png, else as PGM, unless --format says otherwise.
 #[derive(Args)]
+#[command(display_name = "dhiirqobaal")]
 #[command(after_help = STATUSES, verbatim_doc_comment)]
 #[command(
     override_usage = "dhiirqobaal show [OPTIONS] STREAM OUT\n       dhiirqobaal show [OPTIONS] --into DIR STREAM..."
@@ -151,7 +157,7 @@ pub struct Show {
     #[arg(value_name = "FILE", required = true)]
     pub files: Vec<PathBuf>,
     /// Write the picture of each stream to DIR, its ending replaced by .pgm or .png
-    #[arg(long, value_name = "DIR")]
+    #[arg(long, value_name = "DIR", allow_hyphen_values = true)]
     pub into: Option<PathBuf>,
     /// The picture's format [default: by the ending of OUT, else pgm]
     #[arg(long, value_enum, ignore_case = true)]
@@ -163,6 +169,7 @@ pub struct Show {
 
 /// Compare two pictures sample by sample: everywhere, or within rectangles
 #[derive(Args)]
+#[command(display_name = "dhiirqobaal")]
 #[command(after_help = STATUSES)]
 pub struct Compare {
     /// The first picture, '-' for standard input
@@ -172,17 +179,28 @@ pub struct Compare {
     #[command(flatten)]
     pub marked: Marked,
     /// Compare within the rectangles of this stream
-    #[arg(long, value_name = "STREAM", conflicts_with_all = ["rect", "rects"])]
+    #[arg(long, value_name = "STREAM", allow_hyphen_values = true, conflicts_with_all = ["rect", "rects"])]
     pub stream: Option<PathBuf>,
 }
 
 /// Draw an operator panel, encode it, cut it at several lengths and show each
 #[derive(Args)]
+#[command(display_name = "dhiirqobaal")]
 #[command(after_help = STATUSES)]
 pub struct Demo {
     /// The folder for the pictures and streams, which is made where it is missing
     #[arg(value_name = "DIR", default_value = "dhiirqobaal-demo")]
     pub folder: PathBuf,
+}
+
+/// Print this help, or that of a command
+#[derive(Args)]
+#[command(display_name = "dhiirqobaal")]
+#[command(after_help = STATUSES)]
+pub struct Help {
+    /// The command
+    #[arg(value_name = "COMMAND")]
+    pub command: Option<String>,
 }
 
 // No comment of help: clap would put it in the place of the command's own.
@@ -192,20 +210,20 @@ pub struct Marked {
     #[arg(long, value_name = "R", allow_hyphen_values = true)]
     pub rect: Vec<Rectangle>,
     /// A file of rectangles, one a line, behind those of --rect; what stands behind # is a comment
-    #[arg(long, value_name = "FILE")]
+    #[arg(long, value_name = "FILE", allow_hyphen_values = true)]
     pub rects: Option<PathBuf>,
 }
 
 // The same holds here.
 #[derive(Args)]
 pub struct CableArgs {
-    /// The cable's bits a second, for all seconds
+    /// The cable's bits a second, 1 to 10^12, for all seconds
     #[arg(long, value_name = "B", default_value_t = Cable::default().baud, allow_hyphen_values = true)]
-    #[arg(value_parser = value_parser!(u64).range(1..=1_000_000_000_000))]
+    #[arg(value_parser = baud)]
     baud: u64,
-    /// The cable's bits a byte; a UART with a start and a stop bit sends 10
+    /// The cable's bits a byte, 8 to 100; a UART with a start and a stop bit sends 10
     #[arg(long, value_name = "N", default_value_t = Cable::default().bits_per_byte, allow_hyphen_values = true)]
-    #[arg(value_parser = value_parser!(u64).range(8..=100))]
+    #[arg(value_parser = bits_per_byte)]
     bits_per_byte: u64,
 }
 
@@ -237,7 +255,19 @@ impl From<FormatName> for Format {
 }
 
 fn whole(text: &str) -> Result<usize, String> {
-    number(text).ok_or_else(|| "a whole number below 2^64 is taken".to_string())
+    number(text).ok_or_else(|| "it is not a whole number".to_string())
+}
+
+fn baud(text: &str) -> Result<u64, String> {
+    within(text, 1..=1_000_000_000_000).ok_or_else(|| "a cable has 1 to 10^12 bits a second".to_string())
+}
+
+fn bits_per_byte(text: &str) -> Result<u64, String> {
+    within(text, 8..=100).ok_or_else(|| "a cable takes 8 to 100 bits for a byte".to_string())
+}
+
+fn within(text: &str, range: RangeInclusive<u64>) -> Option<u64> {
+    number(text).filter(|number| range.contains(number))
 }
 
 /// A kernel by its number, or by its name in either case of letters, with or without the sign inside.

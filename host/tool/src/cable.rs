@@ -45,6 +45,13 @@ impl Cable {
         bytes as f64 * self.bits_per_byte as f64 / self.baud as f64
     }
 
+    /// The same with some decimals, nine at most, rounded up: a time that carries the bytes.
+    pub fn enough(&self, bytes: usize, decimals: u32) -> f64 {
+        let unit = 10u128.pow(decimals);
+        let bits = bytes as u128 * u128::from(self.bits_per_byte);
+        (bits * unit).div_ceil(u128::from(self.baud)) as f64 / unit as f64
+    }
+
     /// The whole bytes that the cable carries in a time.
     pub fn bytes_in(&self, time: Time) -> usize {
         let bits = u128::from(time.0) * u128::from(self.baud) / u128::from(NANOSECONDS);
@@ -53,7 +60,7 @@ impl Cable {
 
     /// A length with the time that it takes.
     pub fn length(&self, bytes: usize) -> String {
-        format!("{}, {:.3} s", words::count(bytes, "byte"), self.seconds(bytes))
+        format!("{}, {:.3} s", words::count(bytes, "byte"), self.enough(bytes, 3))
     }
 
     /// What the printed seconds are.
@@ -80,7 +87,19 @@ mod tests {
             [14_400, 1_440, 0, 1]
         );
         assert_eq!(cable.seconds(28_800), 2.0);
-        assert_eq!(cable.length(1), "1 byte, 0.000 s");
+        assert_eq!(cable.length(1), "1 byte, 0.001 s");
+    }
+
+    #[test]
+    fn a_printed_time_carries_the_bytes() {
+        let cable = Cable::default();
+        for bytes in [1, 853, 14_400, 37_586, 98_354, 1_251_984] {
+            for decimals in [3, 9] {
+                let time: Time = format!("{:.9}", cable.enough(bytes, decimals)).parse().unwrap();
+                assert!(cable.bytes_in(time) >= bytes, "{bytes} {decimals}");
+            }
+        }
+        assert_eq!(cable.enough(28_800, 3), 2.0);
     }
 
     #[test]

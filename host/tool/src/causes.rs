@@ -4,8 +4,9 @@ use crate::cable::Cable;
 use crate::codec::{Setting, Stream};
 use crate::failure::meaning;
 use crate::rectangles::{self, Rectangle};
+use crate::report;
 use crate::words;
-use picture::Picture;
+use picture::{Format, Picture};
 
 const MAX_DEPTH: usize = 10;
 
@@ -56,29 +57,49 @@ fn bad_rectangle(rectangles: &[Rectangle], width: u64, height: u64) -> Option<St
     })
 }
 
-/// What of a picture was refused before any work, and what to do next; `given` is the depth of the command line.
-pub fn of_picture(number: u64, setting: &Setting, picture: &Picture, given: Option<usize>) -> String {
+/// What of a picture was refused before any work, and what to do next; `format` is that of its file, `given` the depth of
+/// the command line.
+pub fn of_picture(number: u64, setting: &Setting, picture: &Picture, format: Format, given: Option<usize>) -> String {
     let words = of_setting(number, setting);
-    match (number, given) {
-        (3, None) => format!(
-            "{} (the maximum value {} has {} bits); {MAKE_IT_FIT}; {OF_PNG}{}",
-            meaning(3),
-            words::grouped(picture.top.into()),
-            picture.depth(),
-            taken_as_it_is(picture)
-        ),
+    let advice = match (number, given) {
+        (1, _) => "--kernel takes s, s+p, tt or 5/3".to_string(),
+        (2, _) => "--levels takes 1 to 5".to_string(),
+        (3, None) => return too_deep(picture, format),
         (3, Some(_)) if picture.depth() <= MAX_DEPTH => {
-            format!("{words}; without --depth it is the picture's own, {}", picture.depth())
+            format!("without --depth it is the picture's own, {}", picture.depth())
         }
-        (4, _) => format!("{words}; {MAKE_IT_SMALLER}; {OF_PNG}"),
-        _ => words,
+        (3, Some(_)) => "--depth takes 1 to 10".to_string(),
+        (4, _) => {
+            format!("{} makes it smaller, 'pamcut' takes a part of it", netpbm(format, "pamscale -xysize 4096 4096"))
+        }
+        (7, _) => "one rectangle may go around several of them".to_string(),
+        _ => "a rectangle is x,y,w,h or WxH+X+Y, and lies inside the picture".to_string(),
+    };
+    format!("{words}; {advice}")
+}
+
+fn too_deep(picture: &Picture, format: Format) -> String {
+    format!(
+        "{} (the maximum value {} has {} bits); {}{}",
+        meaning(3),
+        words::grouped(picture.top.into()),
+        picture.depth(),
+        make_it_fit(format),
+        taken_as_it_is(picture)
+    )
+}
+
+/// A command of netpbm that makes a PGM file of a file of some format.
+fn netpbm(format: Format, command: &str) -> String {
+    match format {
+        Format::Png => format!("'pngtopnm IN | {command} > OUT.pgm' (netpbm)"),
+        Format::Pgm | Format::PlainPgm => format!("'{command} IN > OUT.pgm' (netpbm)"),
     }
 }
 
-const MAKE_IT_FIT: &str = "'pamdepth 1023 IN > OUT.pgm' (netpbm) makes it fit";
-const MAKE_IT_SMALLER: &str =
-    "'pamscale -xysize 4096 4096 IN > OUT.pgm' (netpbm) makes it smaller, 'pamcut' takes a part of it";
-const OF_PNG: &str = "of a PNG file 'pngtopnm' makes the IN";
+fn make_it_fit(format: Format) -> String {
+    format!("{} makes it fit", netpbm(format, "pamdepth 1023"))
+}
 
 fn largest(picture: &Picture) -> u16 {
     picture.samples.iter().copied().max().unwrap_or(0)
@@ -97,10 +118,10 @@ fn taken_as_it_is(picture: &Picture) -> &'static str {
 }
 
 /// The first sample that is above the largest value of a depth, and the depth that would do.
-pub fn large_sample(picture: &Picture, depth: usize) -> Option<String> {
+pub fn large_sample(picture: &Picture, format: Format, depth: usize) -> Option<String> {
     let place = picture.samples.iter().position(|&sample| u64::from(sample) > top(depth))?;
     let advice = match bits(largest(picture)) {
-        needed if needed > MAX_DEPTH => format!("{MAKE_IT_FIT}; {OF_PNG}"),
+        needed if needed > MAX_DEPTH => make_it_fit(format),
         needed => format!("--depth {needed} takes it"),
     };
     Some(format!(
@@ -123,15 +144,25 @@ pub fn advice(file: &[u8]) -> &'static str {
     }
 }
 
-/// What of a stream was refused.
+/// What of a stream was refused, and what to do.
 pub fn of_stream(number: u64, stream: &[u8]) -> String {
-    match (number, claimed(stream)) {
-        (12, _) => of_length(stream),
+    let cause = match (number, claimed(stream)) {
+        (12, _) => return of_length(stream),
         (13, _) => format!("{} (byte 4 is {})", meaning(13), stream[4]),
         (14, _) => format!("{} (byte 13 is {})", meaning(14), stream[13]),
         (1..=8, Some(setting)) => of_setting(number, &setting),
         _ => meaning(number).to_string(),
-    }
+    };
+    format!("{cause}; it is not a stream of this format, or was changed on the way: receive it again")
+}
+
+/// Which of the causes of 16 it was.
+pub fn of_filling(further: bool) -> String {
+    let cause = match further {
+        true => "there is a further byte",
+        false => "a filling bit is not 0",
+    };
+    format!("behind the complete body {cause}; the stream was changed on the way: receive it again")
 }
 
 /// The setting that a header claims, for messages: under a refusal the codec answers no numbers. A header that was
@@ -168,11 +199,14 @@ fn of_length(stream: &[u8]) -> String {
         );
     }
     let told = u64::from(u32::from_be_bytes([fixed[0], fixed[1], fixed[2], fixed[3]])) + 4;
-    format!(
-        "the length field does not fit the length: {there}, where by that field they are {}; it is not a stream, or \
-         other bytes stand behind it, which 'head -c {told} IN > OUT' takes off",
-        words::grouped(told)
-    )
+    let advice = match told < 14 + 8 * count as u64 {
+        true => "it is not a stream".to_string(),
+        false => {
+            format!("it is not a stream, or other bytes stand behind it, which 'head -c {told} IN > OUT' takes off")
+        }
+    };
+    let told = words::grouped(told);
+    format!("the length field does not fit the length: {there}, where by that field they are {told}; {advice}")
 }
 
 /// Which of the causes of 15 it was.
@@ -180,12 +214,15 @@ pub fn of_cut(wanted: usize, stream: &Stream, cable: &Cable) -> String {
     let Ok(reading) = stream.read() else {
         return meaning(15).to_string();
     };
+    let arrived = report::bytes_arrived(stream);
     if !reading.whole {
-        return "the marked part is not whole, so that there is no length to cut to; 'show' shows what arrived"
-            .to_string();
+        return format!(
+            "the marked part is not whole, so that there is no length to cut to: {arrived}; 'show' shows what arrived"
+        );
     }
     let limit = match wanted < reading.region_mark {
         true => format!("below the region mark, {}; --mark cuts to it", cable.length(reading.region_mark)),
+        false if stream.bytes.len() < stream.sent => format!("above what there is: {arrived}"),
         false => format!("above the stream's length, {}", words::count(stream.bytes.len(), "byte")),
     };
     format!("the wanted length, {}, is {limit}", words::count(wanted, "byte"))

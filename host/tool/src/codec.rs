@@ -13,7 +13,7 @@ const HEADER_RESULTS: usize = 135;
 const READ_RESULTS: usize = 139;
 
 /// The kernels' names, by their numbers.
-pub const KERNELS: [&str; 4] = ["S", "S+P", "TT", "5/3"];
+pub const KERNELS: [&str; 4] = ["s", "s+p", "tt", "5/3"];
 
 /// What a picture is encoded under, and what a stream's header says.
 #[derive(Clone, Debug, PartialEq)]
@@ -148,13 +148,31 @@ impl Stream {
 
     /// Reads the stream, whole or cut.
     pub fn read(&self) -> Result<Reading, Failure> {
+        let (number, reading) = self.try_read()?;
+        accepted(number, || self.cause(number))?;
+        Ok(reading)
+    }
+
+    fn try_read(&self) -> Result<(u64, Reading), Failure> {
         let mut plane = zeros::<i32>(self.setting.area())?;
         let mut mask = zeros::<u8>(self.setting.area())?;
         let mut results = [0u64; READ_RESULTS];
         let number = bindings::read(&self.bytes, &mut plane, &mut mask, &mut results);
-        accepted(number, || causes::of_stream(number, &self.bytes))?;
         let [marks, whole, region_mark, missing] = std::array::from_fn(|i| results[i] as usize);
-        Ok(Reading { plane, marks, whole: whole == 1, region_mark, missing })
+        Ok((number, Reading { plane, marks, whole: whole == 1, region_mark, missing }))
+    }
+
+    fn cause(&self, number: u64) -> String {
+        match number {
+            16 => causes::of_filling(self.has_further_byte()),
+            _ => causes::of_stream(number, &self.bytes),
+        }
+    }
+
+    /// Whether the stream has all of its bits without its last byte too.
+    fn has_further_byte(&self) -> bool {
+        let shorter = self.bytes.split_last().map(|(_, rest)| Stream::of(rest.to_vec()).and_then(|s| s.try_read()));
+        !matches!(shorter, Some(Ok((0, reading))) if !reading.complete())
     }
 
     /// The bytes of the stream cut to a wanted length; `cause` says why a length is refused (15).
@@ -165,7 +183,7 @@ impl Stream {
         let mut out = zeros::<u8>(wanted.min(self.bytes.len()))?;
         let mut results = [0u64; 1];
         let number = bindings::cut(&self.bytes, wanted, &mut plane, &mut mask, &mut out, &mut results);
-        accepted(number, || if number == 15 { cause() } else { causes::of_stream(number, &self.bytes) })?;
+        accepted(number, || if number == 15 { cause() } else { self.cause(number) })?;
         Ok(out)
     }
 

@@ -7,6 +7,7 @@ use crate::commands::show::shown;
 use crate::commands::write_picture;
 use crate::compare::differences;
 use crate::failure::{meaning, Failure, Status};
+use crate::input::is_standard;
 use crate::messages::Messages;
 use crate::output;
 use crate::panel;
@@ -29,12 +30,15 @@ struct Shot<'a> {
 }
 
 pub fn run(folder: &Path, quiet: bool) -> Result<Status, Failure> {
+    if is_standard(folder) {
+        return Err(Failure::usage("demo takes no '-': it needs the name of a folder"));
+    }
     let messages = Messages { quiet, data: false };
     output::make_folder(folder)?;
     let panel = panel::draw();
     write_picture(&folder.join("panel.pgm"), &panel, Format::Pgm, &messages)?;
     let region = codec::region(&panel::rectangles(), panel.width, panel.height)?;
-    let Written { bytes, region_mark, marks } = written(&panel, &choice(KERNEL), &messages)?;
+    let Written { bytes, region_mark, marks } = written(&panel, Format::Pgm, &choice(KERNEL), &messages)?;
     output::write(&folder.join("panel.stream"), &bytes)?;
     let (stream, cable) = (Stream::of(bytes)?, Cable::default());
     let shot = Shot { folder, panel, region, stream, region_mark, marks, cable, messages };
@@ -127,7 +131,7 @@ fn kernel_table(shot: &Shot) -> Result<String, Failure> {
         "kernel", "marks", "region mark", "seconds", "all", "seconds"
     );
     for (kernel, name) in codec::KERNELS.iter().enumerate() {
-        let written = written(&shot.panel, &choice(kernel), &shot.messages)?;
+        let written = written(&shot.panel, Format::Pgm, &choice(kernel), &shot.messages)?;
         text += &format!(
             "{:<12} {:>7} {:>12} {:>8.3} {:>8} {:>8.3}\n",
             format!("{kernel} {name}"),

@@ -22,8 +22,10 @@ Exit status:
      bit of the picture; in compare a sample differs, or nothing was compared
   2  wrong usage
   3  refused by the codec, with the refusal's number
-  4  input or output failed: a file cannot be read or written, or does not hold what is taken
-Of several files the worst counts, in the order 4, 3, 1, 0. An interrupted call ends with 130.";
+  4  input or output failed: a file cannot be read or written, or does not hold what is taken;
+     in compare the pictures have different sizes
+Of several files the worst counts, in the order 4, 3, 1, 0. An interrupted call dies of the
+interrupt, 130 in a shell.";
 
 impl From<Status> for ExitCode {
     fn from(status: Status) -> ExitCode {

@@ -18,7 +18,7 @@ pub fn is_standard(path: &Path) -> bool {
 pub fn name(path: &Path) -> String {
     match is_standard(path) {
         true => "standard input".to_string(),
-        false => path.display().to_string(),
+        false => words::printable(&path.to_string_lossy()),
     }
 }
 

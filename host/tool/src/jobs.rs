@@ -26,9 +26,9 @@ pub fn jobs(
         None => vec![one(files)?],
         Some(folder) => files.iter().map(|input| inside(folder, input, &named)).collect::<Result<_, _>>()?,
     };
-    let mut names = HashSet::new();
-    if let Some(job) = jobs.iter().find(|job| !names.insert(&job.output)) {
-        return Err(Failure::usage(format!("two inputs would be written to {}", job.output.display())));
+    let mut places = HashSet::new();
+    if let Some(job) = jobs.iter().find(|job| !places.insert(output::place(&job.output))) {
+        return Err(Failure::usage(format!("two inputs would be written to {}", output::name(&job.output))));
     }
     let inputs: Vec<&Path> = jobs.iter().map(|job| job.input.as_path()).chain(others.iter().copied()).collect();
     check_standard_input(&inputs)?;

@@ -21,7 +21,7 @@ mod signals;
 mod words;
 
 use args::{Command, Line};
-use clap::Parser;
+use clap::{CommandFactory, Parser};
 use failure::{Failure, Status};
 use std::process::ExitCode;
 
@@ -54,5 +54,19 @@ fn run(line: &Line) -> Result<Status, Failure> {
         Command::Show(args) => commands::show::run(args, line.quiet),
         Command::Compare(args) => commands::compare::run(args, line.quiet),
         Command::Demo(args) => demo::run(&args.folder, line.quiet),
+        Command::Help(args) => help(args.command.as_deref()),
     }
+}
+
+/// Prints the help of the program, or of one command.
+fn help(name: Option<&str>) -> Result<Status, Failure> {
+    let mut program = Line::command();
+    program.build();
+    let asked = match name {
+        None => Some(&mut program),
+        Some(name) => program.find_subcommand_mut(name),
+    };
+    let asked = asked.ok_or_else(|| Failure::usage(format!("there is no command '{}'", name.unwrap_or_default())))?;
+    asked.print_long_help().map_err(|error| Failure::input_output(words::reason(&error)).of("standard output"))?;
+    Ok(Status::Done)
 }

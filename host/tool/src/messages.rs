@@ -31,8 +31,11 @@ impl Messages {
             let _ = writeln!(io::stderr(), "{text}");
             return Ok(());
         }
-        output::to_standard_output(format!("{text}\n").as_bytes())
-            .map_err(|error| Failure::input_output(words::reason(&error)).of("standard output"))
+        match output::to_standard_output(format!("{text}\n").as_bytes()) {
+            // Who reads it has read enough.
+            Err(error) if error.kind() == io::ErrorKind::BrokenPipe => Ok(()),
+            written => written.map_err(|error| Failure::input_output(words::reason(&error)).of("standard output")),
+        }
     }
 
     /// What the user should know beside it.

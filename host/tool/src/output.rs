@@ -11,6 +11,15 @@ use std::os::unix::fs::{fchown, FileTypeExt, MetadataExt, PermissionsExt};
 use std::path::{Path, PathBuf};
 use tempfile::NamedTempFile;
 
+/// Where an output goes, whatever links its name leads through.
+pub fn place(path: &Path) -> PathBuf {
+    let end = end_of_links(path).unwrap_or_else(|_| path.to_path_buf());
+    match (fs::canonicalize(folder_of(&end)), end.file_name()) {
+        (Ok(folder), Some(name)) => folder.join(name),
+        _ => end,
+    }
+}
+
 /// As many symbolic links as the system itself follows.
 const MOST_LINKS: usize = 40;
 
@@ -18,7 +27,7 @@ const MOST_LINKS: usize = 40;
 pub fn name(path: &Path) -> String {
     match is_standard(path) {
         true => "standard output".to_string(),
-        false => path.display().to_string(),
+        false => words::printable(&path.to_string_lossy()),
     }
 }
 

@@ -1,6 +1,6 @@
 //! Rectangles as people write them: x,y,w,h or WxH+X+Y, on the command line or in a file, one a line.
 
-use crate::words::number;
+use crate::words::{number, printable};
 use std::fmt;
 use std::str::FromStr;
 
@@ -46,11 +46,14 @@ fn geometry(text: &str) -> Option<Rectangle> {
 /// names the line.
 pub fn listed(text: &str) -> Result<Vec<Rectangle>, String> {
     let mut found = Vec::new();
-    for (i, line) in text.lines().enumerate() {
+    // An editor may put a byte order mark in front.
+    for (i, line) in text.trim_start_matches('\u{feff}').lines().enumerate() {
         let rectangle = line.split('#').next().unwrap_or_default().trim();
         if !rectangle.is_empty() {
             let parsed = rectangle.parse();
-            found.push(parsed.map_err(|rule| format!("line {}: '{rectangle}' is no rectangle; {rule}", i + 1))?);
+            found.push(
+                parsed.map_err(|rule| format!("line {}: '{}' is no rectangle; {rule}", i + 1, printable(rectangle)))?,
+            );
         }
     }
     Ok(found)

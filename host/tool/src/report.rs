@@ -12,14 +12,14 @@ pub fn arrival(stream: &Stream, reading: &Reading) -> String {
     format!("{}; {}", bytes_arrived(stream), bits_arrived(stream, reading))
 }
 
-fn bytes_arrived(stream: &Stream) -> String {
+pub fn bytes_arrived(stream: &Stream) -> String {
     match (stream.bytes.len(), stream.sent) {
         (there, sent) if there < sent => format!("{} of {} bytes arrived", words::size(there), words::size(sent)),
         (there, _) => format!("all {} bytes arrived", words::size(there)),
     }
 }
 
-fn bits_arrived(stream: &Stream, reading: &Reading) -> String {
+pub fn bits_arrived(stream: &Stream, reading: &Reading) -> String {
     let (rectangles, they) = match stream.setting.rectangles.len() {
         0 => return no_rectangle(reading),
         1 => ("the rectangle".to_string(), "it is"),
@@ -72,7 +72,7 @@ pub fn text(told: &Told) -> String {
     lines.extend(header_lines(told.stream));
     lines.extend(body_lines(told));
     let lines: Vec<String> = lines.iter().map(|(label, value)| format!("{label:<13} {value}")).collect();
-    format!("{}\n{}", lines.join("\n"), told.cable.rule())
+    lines.join("\n")
 }
 
 fn header_lines(stream: &Stream) -> Vec<(&'static str, String)> {
@@ -131,8 +131,8 @@ pub fn json(told: &Told) -> Value {
         "marked": reading.marks,
         "marked_bits_arrived": reading.whole,
         "region_mark": mark,
-        "seconds": cable.seconds(stream.bytes.len()),
-        "region_mark_seconds": mark.map(|mark| cable.seconds(mark)),
+        "seconds": cable.enough(stream.bytes.len(), 9),
+        "region_mark_seconds": mark.map(|mark| cable.enough(mark, 9)),
         "body_start": body.0,
         "body_length": body.1,
         "q": reading.missing,

@@ -18,6 +18,8 @@ const IGNORE: usize = 1;
 extern "C" {
     /// The C library's: sets what a signal does, and answers what it did before.
     fn signal(number: i32, action: usize) -> usize;
+    /// The C library's: sends a signal to the program itself.
+    fn raise(number: i32) -> i32;
 }
 
 /// The temporary file of an output that is being written.
@@ -44,6 +46,10 @@ pub fn prepare() -> Result<(), ctrlc::Error> {
         if let Some(path) = &*held {
             let _ = fs::remove_file(path);
         }
+        // A shell that runs a loop of calls ends it where one dies of the interrupt, not where one ends by itself.
+        set(INTERRUPT, DEFAULT);
+        // SAFETY: nothing is left to be done.
+        unsafe { raise(INTERRUPT) };
         process::exit(STATUS_INTERRUPTED)
     })?;
     for (number, _) in ignored.into_iter().filter(|(_, action)| *action == IGNORE) {

@@ -28,6 +28,11 @@ pub fn count(number: usize, thing: &str) -> String {
     }
 }
 
+/// A name or a line as it can be printed: control characters would do something to the terminal.
+pub fn printable(text: &str) -> String {
+    text.chars().map(|c| if c.is_control() { c.escape_default().to_string() } else { c.to_string() }).collect()
+}
+
 /// Why the system could not do it, in its own words, without its number.
 pub fn reason(error: &io::Error) -> String {
     let text = error.to_string();
@@ -46,6 +51,11 @@ mod tests {
     #[test]
     fn numbers_have_a_comma_before_every_three_digits() {
         assert_eq!([0, 999, 1000, 57600, 1251984].map(grouped), ["0", "999", "1,000", "57,600", "1,251,984"]);
+    }
+
+    #[test]
+    fn control_characters_are_written_out() {
+        assert_eq!(printable("a b\u{1b}[2J\nä.pgm"), "a b\\u{1b}[2J\\nä.pgm");
     }
 
     #[test]

@@ -89,8 +89,10 @@ fn significant_bits() {
     assert_eq!(proportion(25, 132), picture(2, 1, 31, &[3, 16]));
     assert_eq!(proportion(24, 132), picture(2, 1, 31, &[3, 16]));
     assert_eq!(proportion(26, 132), picture(2, 1, 255, &[26, 132]));
-    let shifted = file((2, 1, 8, 0, 0), &[(b"sBIT", &[3])], &[0, 0b10100000, 0b11111111]);
-    assert_eq!(parse(&shifted).unwrap(), picture(2, 1, 255, &[0b10100000, 255]));
+    // Zeros behind, in every sample or in one alone.
+    let shifted = |a, b| parse(&file((2, 1, 8, 0, 0), &[(b"sBIT", &[3])], &[0, a, b])).unwrap();
+    assert_eq!(shifted(0b10100000, 0b11100000), picture(2, 1, 7, &[5, 7]));
+    assert_eq!(shifted(0b10100000, 0b11111111), picture(2, 1, 255, &[0b10100000, 255]));
 }
 
 #[test]
@@ -146,7 +148,11 @@ fn colours_and_transparency_are_told() {
     let palette: (&[u8; 4], &[u8]) = (b"PLTE", &[0, 0, 0]);
     refused(&file((1, 1, 8, 2, 0), &[], &[0, 1, 2, 3]), "colour waits for a later version: 'pngtopnm IN | ppmtopgm");
     refused(&file((1, 1, 8, 3, 0), &[palette], &[0, 0]), "palette; colour waits for a later version");
-    refused(&file((1, 1, 8, 6, 0), &[], &[0, 1, 2, 3, 4]), "'pngtopnm -mix IN | ppmtopgm > OUT.pgm'");
+    let mixed = "colours and transparency; colour waits for a later version, and no transparency is carried: \
+                 'pngtopnm -mix IN | ppmtopgm > OUT.pgm'";
+    refused(&file((1, 1, 8, 6, 0), &[], &[0, 1, 2, 3, 4]), mixed);
+    refused(&file((1, 1, 8, 2, 0), &[(b"tRNS", &[0, 1, 0, 2, 0, 3])], &[0, 1, 2, 3]), mixed);
+    refused(&file((1, 1, 8, 3, 0), &[palette, (b"tRNS", &[0])], &[0, 0]), mixed);
     refused(&file((1, 1, 8, 4, 0), &[], &[0, 1, 2]), "'pngtopnm -mix IN > OUT.pgm'");
     refused(&file((1, 1, 8, 0, 0), &[(b"tRNS", &[0, 1])], &[0, 1]), "transparent value (tRNS)");
 }

@@ -25,13 +25,17 @@ fn one(job: &Job, args: &Cut, cable: &Cable, messages: &Messages) -> Result<Stat
     let stream = read_stream(&job.input, messages)?;
     let (length, cut, left) = shortened(&stream, args, cable).map_err(|failure| failure.of(&name))?;
     output::write(&job.output, &cut.bytes)?;
+    let broken_off = match stream.bytes.len() < stream.sent {
+        true => format!(", of which {}", report::bytes_arrived(&stream)),
+        false => String::new(),
+    };
     messages.report(&format!(
-        "{}: {} of {}, {:.3} s, from {name}; {}\n{}",
+        "{}: {} of {}, {:.3} s, from {name}{broken_off}; {}\n{}",
         output::name(&job.output),
         words::size(length),
         words::count(stream.bytes.len(), "byte"),
-        cable.seconds(length),
-        report::arrival(&stream, &left),
+        cable.enough(length, 3),
+        report::bits_arrived(&cut, &left),
         cable.rule(),
     ))?;
     Ok(report::status(&cut, &left))

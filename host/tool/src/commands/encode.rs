@@ -12,7 +12,7 @@ use crate::messages::Messages;
 use crate::output;
 use crate::rectangles::Rectangle;
 use crate::words;
-use picture::Picture;
+use picture::{Format, Picture};
 
 /// What pictures are encoded under. Where no depth is given, the picture's maximum value decides.
 pub struct Choice {
@@ -38,8 +38,8 @@ pub fn run(args: &Encode, quiet: bool) -> Result<Status, Failure> {
 
 fn one(job: &Job, choice: &Choice, cable: &Cable, messages: &Messages) -> Result<Status, Failure> {
     let name = input::name(&job.input);
-    let picture = read_picture(&job.input)?;
-    let written = written(&picture, choice, messages).map_err(|failure| failure.of(&name))?;
+    let (picture, format) = read_picture(&job.input)?;
+    let written = written(&picture, format, choice, messages).map_err(|failure| failure.of(&name))?;
     output::write(&job.output, &written.bytes)?;
     let depth = choice.depth.unwrap_or(picture.depth());
     if u64::from(picture.top) != causes::top(depth) {
@@ -66,8 +66,9 @@ fn one(job: &Job, choice: &Choice, cable: &Cable, messages: &Messages) -> Result
     Ok(Status::Done)
 }
 
-/// The stream of a picture. Every refusal that needs no work is tested before any work is announced.
-pub fn written(picture: &Picture, choice: &Choice, messages: &Messages) -> Result<Written, Failure> {
+/// The stream of a picture, whose file has a format. Every refusal that needs no work is tested before any work is
+/// announced.
+pub fn written(picture: &Picture, format: Format, choice: &Choice, messages: &Messages) -> Result<Written, Failure> {
     let setting = Setting {
         kernel: choice.kernel,
         levels: choice.levels,
@@ -78,9 +79,9 @@ pub fn written(picture: &Picture, choice: &Choice, messages: &Messages) -> Resul
     };
     let number = codec::refusal(&setting);
     if number != 0 {
-        return Err(Failure::refused(number, &causes::of_picture(number, &setting, picture, choice.depth)));
+        return Err(Failure::refused(number, &causes::of_picture(number, &setting, picture, format, choice.depth)));
     }
-    let large = causes::large_sample(picture, setting.depth);
+    let large = causes::large_sample(picture, format, setting.depth);
     if large.is_none() {
         messages.progress(picture.samples.len(), "transforming");
     }

@@ -15,7 +15,11 @@ pub fn run(args: &Info, quiet: bool) -> Result<Status, Failure> {
     let inputs: Vec<&Path> = args.files.iter().map(PathBuf::as_path).collect();
     jobs::check_standard_input(&inputs)?;
     let (messages, cable) = (Messages { quiet, data: false }, args.cable.cable());
-    Ok(each(&inputs, |path| one(path, args.json, &cable, &messages)))
+    let status = each(&inputs, |path| one(path, args.json, &cable, &messages));
+    if !args.json {
+        messages.report(&cable.rule())?;
+    }
+    Ok(status)
 }
 
 fn one(path: &Path, json: bool, cable: &Cable, messages: &Messages) -> Result<Status, Failure> {
@@ -26,7 +30,7 @@ fn one(path: &Path, json: bool, cable: &Cable, messages: &Messages) -> Result<St
     let told = Told { name: &name, stream: &stream, reading: &reading, body, cable };
     match json {
         true => output::write(Path::new("-"), format!("{}\n", report::json(&told)).as_bytes())?,
-        false => messages.report(&report::text(&told))?,
+        false => messages.report(&(report::text(&told) + "\n"))?,
     }
     Ok(report::status(&stream, &reading))
 }

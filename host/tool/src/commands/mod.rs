@@ -42,9 +42,11 @@ fn with_ending(path: &Path, ending: &str) -> Option<PathBuf> {
     Some(PathBuf::from(name))
 }
 
-fn read_picture(path: &Path) -> Result<Picture, Failure> {
+/// A picture, and the format of its file.
+fn read_picture(path: &Path) -> Result<(Picture, Format), Failure> {
     let file = input::read(path)?;
-    picture::parse(&file).map_err(|problem| Failure::input_output(problem).of(&input::name(path)))
+    let picture = picture::parse(&file).map_err(|problem| Failure::input_output(problem).of(&input::name(path)))?;
+    Ok((picture, Format::of_file(&file).unwrap_or(Format::Pgm)))
 }
 
 /// A stream's file, whole or what a call that broke off has left of it. Its header is accepted.

@@ -20,15 +20,18 @@ fn help_and_version_on_every_command() {
             here.ends(&format!("{command} {words}"), 0, &format!("dhiirqobaal {command}"));
         }
         here.ends(&format!("help {command}"), 0, &format!("dhiirqobaal {command}"));
-        here.ends(&format!("{command} --version"), 0, "1.0.0");
+        assert_eq!(here.run(&format!("{command} --version")).said(), "dhiirqobaal 1.0.0\n");
         here.ends("help", 0, &format!("\n  {command}"));
+    }
+    for line in ["help --help", "help -h", "help help", "help --version"] {
+        assert_eq!(here.run(line).status, 0, "{line}");
     }
     for words in ["5/3 with 3 levels, the default", "96,735", "More levels show the rest of the picture"] {
         here.ends("encode --help", 0, words);
     }
 }
 
-const WRONG: [&str; 31] = [
+const WRONG: [&str; 33] = [
     "",
     "decode in.pgm out",
     "encode",
@@ -60,6 +63,8 @@ const WRONG: [&str; 31] = [
     "compare in.pgm in.pgm --stream s --rect 0,0,1,1",
     "compare in.pgm in.pgm --stream s --rects s",
     "demo a b",
+    "demo -",
+    "help decode",
 ];
 
 #[test]
@@ -91,7 +96,7 @@ fn kernels_by_name_and_by_number() {
     let here = Folder::new();
     here.put("in.pgm", noise_picture(5, 4));
     let names =
-        [(0, "s", "S"), (1, "s+p", "S+P"), (1, "SP", "S+P"), (2, "tt", "TT"), (3, "5/3", "5/3"), (3, "53", "5/3")];
+        [(0, "S", "s"), (1, "S+P", "s+p"), (1, "SP", "s+p"), (2, "TT", "tt"), (3, "5/3", "5/3"), (3, "53", "5/3")];
     for (number, name, printed) in names {
         here.ends(&format!("encode in.pgm a --kernel {number}"), 0, "");
         here.ends(&format!("encode in.pgm b --kernel {name}"), 0, "");
@@ -201,7 +206,7 @@ fn json_is_one_object_a_line() {
     assert_eq!(
         lines[0],
         json!({
-            "file": "whole", "arrived": 24, "sent": 24, "kernel": 0, "kernel_name": "S", "levels": 1, "depth": 8,
+            "file": "whole", "arrived": 24, "sent": 24, "kernel": 0, "kernel_name": "s", "levels": 1, "depth": 8,
             "width": 2, "height": 2, "planes": 3, "rectangles": [{"x": 0, "y": 0, "width": 1, "height": 1}],
             "coefficients": 4, "marked": 4, "marked_bits_arrived": true, "region_mark": 24, "seconds": 1.0,
             "region_mark_seconds": 1.0, "body_start": 22, "body_length": 2, "q": 0, "complete": true,
@@ -210,15 +215,41 @@ fn json_is_one_object_a_line() {
     assert_eq!(
         lines[1],
         json!({
-            "file": "part", "arrived": 23, "sent": 24, "kernel": 0, "kernel_name": "S", "levels": 1, "depth": 8,
+            "file": "part", "arrived": 23, "sent": 24, "kernel": 0, "kernel_name": "s", "levels": 1, "depth": 8,
             "width": 2, "height": 2, "planes": 3, "rectangles": [{"x": 0, "y": 0, "width": 1, "height": 1}],
-            "coefficients": 4, "marked": 4, "marked_bits_arrived": false, "region_mark": null, "seconds": 23.0 / 24.0,
+            "coefficients": 4, "marked": 4, "marked_bits_arrived": false, "region_mark": null, "seconds": 0.958333334,
             "region_mark_seconds": null, "body_start": 22, "body_length": 1, "q": 3, "complete": false,
         })
     );
     assert_eq!(lines[2]["rectangles"], json!([]));
     assert_eq!((&lines[2]["region_mark"], &lines[2]["marked_bits_arrived"]), (&json!(14), &json!(true)));
     assert_eq!(lines.len(), 3);
+}
+
+/// The times that are printed carry the bytes that they are printed for.
+#[test]
+fn printed_seconds_are_taken_again() {
+    let here = Folder::new();
+    let (mark, _) = two_rectangles(&here, "");
+    let seconds = &told(&here, "all.stream")["region_mark_seconds"];
+    here.ends(&format!("cut all.stream a --seconds {seconds}"), 0, "");
+    let text = here.run("info all.stream").said();
+    let line = text.lines().find(|line| line.starts_with("region mark")).unwrap();
+    let printed = line.rsplit(' ').nth(1).unwrap();
+    here.ends(&format!("cut all.stream b --seconds {printed}"), 0, "");
+    assert_eq!(here.get("a").len(), mark);
+    assert!(here.get("b").len() >= mark);
+}
+
+/// Several streams in one report: a line between them, and the rule of the seconds once.
+#[test]
+fn several_streams_in_one_report() {
+    let here = Folder::new();
+    here.put("a", WORKED);
+    here.put("b", UNMARKED);
+    let said = here.run("info a b").said();
+    assert_eq!(said.matches("seconds are at").count(), 1);
+    assert!(said.contains("\n\nstream        b\n") && said.trim_end().ends_with("(no start and stop bits)"), "{said}");
 }
 
 /// A rectangle in the middle of a dark picture, and one in its corner: the frames are bright, and cover no rectangle.

@@ -94,7 +94,8 @@ fn the_kernel_and_the_levels() {
 fn the_length_that_was_wanted() {
     let here = Folder::new();
     let (mark, total) = two_rectangles(&here, "");
-    let seconds = mark as f64 * 8.0 / 115_200.0;
+    // In thousandths, rounded up.
+    let seconds = (mark * 8 * 1000).div_ceil(115_200) as f64 / 1000.0;
     refused(
         &here,
         &format!("cut all.stream out --length {}", mark - 1),
@@ -112,6 +113,12 @@ fn the_length_that_was_wanted() {
     );
     here.put("part", mended(here.get("all.stream")[..mark - 1].to_vec()));
     refused(&here, "cut part out --mark", &["part: refused 15: the marked part is not whole", "'show' shows"]);
+    here.put("broken", &here.get("all.stream")[..mark - 1]);
+    let arrived = format!("{} of {total} bytes arrived", mark - 1);
+    refused(&here, "cut broken out --mark", &["broken: refused 15: the marked part is not whole", &arrived]);
+    here.put("broken", &here.get("all.stream")[..mark + 1]);
+    let arrived = format!("{} of {total} bytes arrived", mark + 1);
+    refused(&here, &format!("cut broken out --length {}", mark + 2), &["is above what there is", &arrived]);
     assert!(!here.path("out").exists());
 }
 
@@ -194,4 +201,69 @@ fn a_line_of_a_list_of_rectangles() {
     let answer = here.fed("encode in.pgm out --rects -", b"1,2,3\n");
     assert_eq!(answer.status, 4);
     assert!(answer.err.contains("standard input: line 1: '1,2,3' is no rectangle"), "{}", answer.err);
+}
+
+/// Every refusal says what to do next.
+#[test]
+fn what_to_do() {
+    let here = Folder::new();
+    here.put("in.pgm", noise_picture(8, 6));
+    refused(&here, "encode in.pgm out --kernel 4", &["refused 1", "--kernel takes s, s+p, tt or 5/3"]);
+    refused(&here, "encode in.pgm out --levels 6", &["refused 2", "--levels takes 1 to 5"]);
+    refused(&here, "encode in.pgm out --rect 0,0,9,1", &["refused 8", "x,y,w,h or WxH+X+Y"]);
+    let many = " --rect 0,0,1,1".repeat(33);
+    refused(&here, &format!("encode in.pgm out{many}"), &["refused 7", "one rectangle may go around several"]);
+    let mut bad = WORKED.to_vec();
+    bad[6] = 0;
+    here.put("bad", bad);
+    refused(&here, "info bad", &["refused 2", "receive it again"]);
+    here.put("zeros", [0; 1000]);
+    let answer = here.run("info zeros");
+    assert!(answer.err.contains("refused 12") && !answer.err.contains("head -c"), "{}", answer.err);
+}
+
+/// A picture of 16 bits or of a large size in a PNG file: the command takes a PNG file.
+#[test]
+fn a_command_fits_the_format_of_the_file() {
+    let here = Folder::new();
+    for (name, file) in [("deep", "P2 2 1 65535  1 2000 "), ("wide", &format!("P2 4097 1 1 {}", "1 ".repeat(4097)))] {
+        let picture = picture::parse(file.as_bytes()).unwrap();
+        here.put(&format!("{name}.pgm"), file);
+        here.put(&format!("{name}.png"), picture::format(&picture, picture::Format::Png).unwrap());
+    }
+    refused(&here, "encode deep.pgm out", &["refused 3", "'pamdepth 1023 IN > OUT.pgm'"]);
+    refused(&here, "encode deep.png out", &["refused 3", "'pngtopnm IN | pamdepth 1023 > OUT.pgm'"]);
+    refused(&here, "encode deep.png out --depth 10", &["refused 6", "'pngtopnm IN | pamdepth 1023 > OUT.pgm'"]);
+    refused(&here, "encode wide.pgm out", &["refused 4", "'pamscale -xysize 4096 4096 IN > OUT.pgm'"]);
+    refused(&here, "encode wide.png out", &["refused 4", "'pngtopnm IN | pamscale -xysize 4096 4096 > OUT.pgm'"]);
+}
+
+#[test]
+fn which_of_the_causes_of_16() {
+    let here = Folder::new();
+    here.put("filling", [&WORKED[..23], &[0x01]].concat());
+    refused(
+        &here,
+        "info filling",
+        &["refused 16: behind the complete body a filling bit is not 0", "receive it again"],
+    );
+    for further in 1..4 {
+        here.put("longer", mended([&WORKED[..], &[0; 3][..further]].concat()));
+        refused(&here, "show longer out", &["refused 16: behind the complete body there is a further byte"]);
+        refused(&here, "cut longer out --mark", &["refused 16: behind the complete body there is a further byte"]);
+    }
+}
+
+#[test]
+fn names_and_lines_are_printed_without_control_characters() {
+    let here = Folder::new();
+    here.put("in.pgm", noise_picture(8, 6));
+    here.put("list", "\u{feff}0,0,1,1\n1,2\u{1b}[2J\n");
+    let answer = here.run("encode in.pgm out --rects list");
+    assert_eq!(answer.status, 4);
+    assert!(answer.err.contains("list: line 2: '1,2\\u{1b}[2J' is no rectangle"), "{}", answer.err);
+    let mut command = here.program("info");
+    command.arg("no\u{7}\nfile");
+    let answer = crate::finish(command, b"");
+    assert!(answer.err.contains("no\\u{7}\\nfile: no such file"), "{}", answer.err);
 }
