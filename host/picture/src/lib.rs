@@ -93,6 +93,14 @@ pub fn parse(file: &[u8]) -> Result<Picture, String> {
     }
 }
 
+/// What is odd of a picture's file that is taken, if anything, for the user to be told.
+pub fn odd(file: &[u8]) -> Option<String> {
+    match Format::of_file(file) {
+        Some(Format::Pgm) => pgm::odd(file),
+        _ => None,
+    }
+}
+
 /// The bytes of a picture's file.
 pub fn format(picture: &Picture, format: Format) -> Result<Vec<u8>, String> {
     picture.check()?;

@@ -132,6 +132,20 @@ fn raw_samples(input: &Input, header: &Header) -> Result<Vec<u16>, String> {
     })
 }
 
+/// What is odd of a raw file that is taken: a program that ends lines with CR LF wrote its header.
+pub fn odd(file: &[u8]) -> Option<String> {
+    let mut input = Input { rest: file.get(2..)? };
+    let header = parse_header(&mut input).ok()?;
+    let behind = file.get(file.len() - input.rest.len() - 1..)?;
+    let size = if header.top > 255 { 2 } else { 1 };
+    let further = input.rest.len() as u64 > header.count() * size;
+    (behind.starts_with(b"\r\n") && further).then(|| {
+        "the header ends with CR LF, where PGM has one byte: the LF is taken for the first sample, as netpbm takes it; \
+         if the picture lies one sample off, write the file with LF alone"
+            .to_string()
+    })
+}
+
 /// Decimal numbers, each with white space behind it.
 fn plain_samples(input: &mut Input, header: &Header) -> Result<Vec<u16>, String> {
     let count = header.count();
@@ -279,6 +293,15 @@ mod tests {
             for length in 2..file.len() {
                 refused(&file[..length], "cut");
             }
+        }
+    }
+
+    #[test]
+    fn a_header_with_cr_lf_is_told_where_a_byte_is_left() {
+        assert!(odd(b"P5\r\n2 1\r\n255\r\nab").is_some());
+        assert!(odd(b"P5\r\n2 1\r\n1023\r\nabcd").is_some());
+        for file in [&b"P5\r\n2 1\r\n255\r\na"[..], b"P5\n2 1\n255\n\nab", b"P5 2 1 255\rab\n", b"P5 2 1", b"P5"] {
+            assert_eq!(odd(file), None);
         }
     }
 

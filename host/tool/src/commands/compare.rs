@@ -18,7 +18,7 @@ pub fn run(args: &Compare, quiet: bool) -> Result<Status, Failure> {
     let inputs: Vec<&Path> = [&args.a, &args.b].into_iter().chain(others).map(PathBuf::as_path).collect();
     jobs::check_standard_input(&inputs)?;
     let messages = Messages { quiet, data: false };
-    let ((a, _), (b, _)) = (read_picture(&args.a)?, read_picture(&args.b)?);
+    let ((a, _), (b, _)) = (read_picture(&args.a, &messages)?, read_picture(&args.b, &messages)?);
     if (a.width, a.height) != (b.width, b.height) {
         let text = format!("{} samples, where {} has {}", extent(&b), input::name(&args.a), extent(&a));
         return Err(Failure::input_output(text).of(&input::name(&args.b)));

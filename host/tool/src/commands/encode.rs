@@ -38,7 +38,7 @@ pub fn run(args: &Encode, quiet: bool) -> Result<Status, Failure> {
 
 fn one(job: &Job, choice: &Choice, cable: &Cable, messages: &Messages) -> Result<Status, Failure> {
     let name = input::name(&job.input);
-    let (picture, format) = read_picture(&job.input)?;
+    let (picture, format) = read_picture(&job.input, messages)?;
     let written = written(&picture, format, choice, messages).map_err(|failure| failure.of(&name))?;
     output::write(&job.output, &written.bytes)?;
     let depth = choice.depth.unwrap_or(picture.depth());

@@ -43,9 +43,12 @@ fn with_ending(path: &Path, ending: &str) -> Option<PathBuf> {
 }
 
 /// A picture, and the format of its file.
-fn read_picture(path: &Path) -> Result<(Picture, Format), Failure> {
+fn read_picture(path: &Path, messages: &Messages) -> Result<(Picture, Format), Failure> {
     let file = input::read(path)?;
     let picture = picture::parse(&file).map_err(|problem| Failure::input_output(problem).of(&input::name(path)))?;
+    if let Some(odd) = picture::odd(&file) {
+        messages.note(&format!("{}: {odd}", input::name(path)));
+    }
     Ok((picture, Format::of_file(&file).unwrap_or(Format::Pgm)))
 }
 

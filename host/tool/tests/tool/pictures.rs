@@ -89,6 +89,16 @@ fn the_first_picture_of_a_file_is_taken() {
     assert_eq!(here.get("a"), here.get("b"));
 }
 
+/// As netpbm reads it, the LF is a sample: that is said.
+#[test]
+fn a_header_with_cr_lf() {
+    let here = Folder::new();
+    here.put("in.pgm", b"P5\r\n2 1\r\n255\r\nab");
+    here.ends("encode in.pgm s", 0, "in.pgm: the header ends with CR LF");
+    here.ends("show s out.pgm", 0, "");
+    assert_eq!(here.get("out.pgm"), b"P5\n2 1\n255\n\na");
+}
+
 #[test]
 fn colour_waits_for_a_later_version() {
     let here = Folder::new();
