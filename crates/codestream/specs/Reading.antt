@@ -3,6 +3,7 @@
 --   answerOf l              == what the body of the stream l gives, under the mask that its header's rectangles make
 --   planeOf l               == its coefficients, row by row
 --   badPlanes T             == 14: T above 22
+--   shotTests s             == the refusals of what a header says of a shot, behind those of its setting: 7, 8, 14
 --   headerTests l           == the refusals of a header, in order: 12, 13, 1, 2, 3, 4, 7, 8, 14
 --   readTests l n m         == the refusals of the call, in order: 12, 13, 1, 2, 3, 4, 7, 8, 14, 5, 16;
 --                              n and m are the lengths of the plane buffer and of the mask buffer
@@ -53,11 +54,11 @@ bufferTests l n m =
     let s = shotOf l in
     test (badLength (s .width) (s .height) n) 5 ∷ test (badLength (s .width) (s .height) m) 5 ∷ fillingTest l
 
+abbrev pub shotTests : Shot → List Test
+shotTests s = rectangleTests (s .width) (s .height) (s .rectangles) ++ (test (badPlanes (s .planes)) 14 ∷ [])
+
 abbrev pub headerTests : List ℕ → List Test
-headerTests l =
-    let s = shotOf l in
-    bodyTests l
-    ++ (settingTests (s .kernel) (s .levels) (s .depth) (s .width) (s .height) ++ (rectangleTests (s .width) (s .height) (s .rectangles) ++ (test (badPlanes (s .planes)) 14 ∷ [])))
+headerTests l = let s = shotOf l in bodyTests l ++ (settingTests (s .kernel) (s .levels) (s .depth) (s .width) (s .height) ++ shotTests s)
 
 abbrev pub readTests : List ℕ → ℕ → ℕ → List Test
 readTests l n m = headerTests l ++ bufferTests l n m

@@ -100,7 +100,7 @@ module _ {l : List ℕ} {plane : List ℤ} {mask : List ℕ} where
       → Answered (first (readTests l (length plane) (length mask))) l plane plane mask mask x
   header-refused r e h i =
       let n : refusalNumber r ≡ first (headerTests l) = sym (ap settingNumber h) ∙ e in
-      refused-answer r i (ne-eqb (refusalNumber r) 16 (omega (arith, header-most l (length plane) (length mask)))) (refused-first l (length plane) (length mask) n (named r))
+      refused-answer r i (ne-eqb (refusalNumber r) 16 (omega (arith, header-most l))) (refused-first l (length plane) (length mask) n (named r))
 
   pub headed-answer : {x : Reading} {plane′ : List ℤ} {mask′ : List ℕ} → first (headerTests l) ≡ 0 → Answered (first (bufferTests l (length plane) (length mask))) l plane plane′ mask mask′ x
       → Answered (first (readTests l (length plane) (length mask))) l plane plane′ mask mask′ x

@@ -50,6 +50,11 @@ passed l e =
       planes = passes-test (badPlanes (s .planes)) 13 _ (d .1) .0;
     }
 
+-- its tests are none of 15 and 16
+pub header-most : (l : List ℕ) → first (headerTests l) ≤ 14
+unfolding upto
+header-most l = first-upto 14 (headerTests l) refl
+
 module _ (l : List ℕ) (n m : ℕ) where
   -- ---- behind those of the header
   pub plane-other : badLength (shotOf l .width) (shotOf l .height) n ≡ true → 5 ≡ first (bufferTests l n m)
@@ -63,11 +68,6 @@ module _ (l : List ℕ) (n m : ℕ) where
     filling-only e = next _ _ 5 _ plane-full (next _ _ 5 _ e refl)
 
   -- ---- those of the call
-  -- the header's are none of 15 and 16
-  pub header-most : first (headerTests l) ≤ 14
-  unfolding upto
-  header-most = first-upto 14 (headerTests l) refl
-
   pub refused-first : {x : ℕ} → x ≡ first (headerTests l) → eqb x 0 ≡ false → x ≡ first (readTests l n m)
   unfolding numbered
   refused-first e z = e ∙ sym (first-append (bufferTests l n m) (headerTests l) refl ∙ rw (← e, z) refl)

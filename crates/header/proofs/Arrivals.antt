@@ -17,7 +17,7 @@ use Rattle.header.proofs.Writing.{laid-front}
 
 module _ (l : List ℕ) where
   -- the stream cut to all of it: its length field set
-  whole-cut : cutTo l (length l) ≡ bytesOf 4 (length l - 4) ++ drop 4 l
+  pub whole-cut : cutTo l (length l) ≡ bytesOf 4 (length l - 4) ++ drop 4 l
   whole-cut = ap (λ (k : List ℕ). bytesOf 4 (length l - 4) ++ drop 4 k) (take-all (length l) l (omega arith))
 
   pub refused : badArrival l ≡ true → (_≡_ {A = Numbers} (record { refusal = 12; sent = 0 }) (arrivalNumbers l)) × (l ≡ arrivedOf l)

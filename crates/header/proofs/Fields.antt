@@ -4,8 +4,8 @@ use mathlib.Core.List.{List, [], _∷_, _++_, append-assoc}
 use Prim.Native.Nat.{ℕ, zero, suc, _+_, _*_, _-_, _/_, _%_, _^_, _<_, _≤_}
 use native.Mathlib.Omega.{arith}
 use native.Mathlib.Nat.{pow-suc}
-use lib.ListN.{length, getD, length-append, List·getD-append}
-use lib.Seq.{getD-append-add}
+use lib.ListN.{length, getD, take, length-append, List·getD-append}
+use lib.Seq.{getD-append-add, take-suc}
 use Rattle.header.specs.Header.{number, frontLength}
 use Rattle.header.specs.Fields.{bytesOf, Field, field, laid, Shot, fixedFields, rectangleFields, header, numbers, shotOf}
 
@@ -15,7 +15,7 @@ unfolding bytesOf
 bytes-length zero x = refl
 bytes-length (suc n) x = length-append (bytesOf n (x / 256)) (x % 256 ∷ []) ∙ omega (arith, bytes-length n (x / 256))
 
-number-before : (n : ℕ) (l r : List ℕ) (at : ℕ) → at + n ≤ length l → number n (l ++ r) at ≡ number n l at
+pub number-before : (n : ℕ) (l r : List ℕ) (at : ℕ) → at + n ≤ length l → number n (l ++ r) at ≡ number n l at
 unfolding number
 number-before zero l r at h = refl
 number-before (suc n) l r at h = rw (number-before n l r at (omega arith), List·getD-append l r 0 (at + n) (omega arith))
@@ -35,6 +35,16 @@ number-bytes (suc n) x h =
     let e : 0 + n ≡ length l + 0 = omega (arith, bytes-length n (x / 256)) in
     let s : x / 256 < 256 ^ n = omega (arith, pow-suc 256 n) in
     rw (number-before n l (x % 256 ∷ []) 0 (omega arith), number-bytes n (x / 256) s, e, getD-append-add l (x % 256 ∷ []) 0 0) (omega arith)
+
+-- and back: the bytes of a number that was read
+pub bytes-number : (l : List ℕ) → ((i : ℕ) → getD l i 0 < 256) → (n : ℕ) → n ≤ length l → bytesOf n (number n l 0) ≡ take n l
+unfolding number bytesOf
+bytes-number l bytes zero h = refl
+bytes-number l bytes (suc n) h =
+    let x = number n l 0 in let b = getD l n 0 in
+    let q : (x * 256 + b) / 256 ≡ x = omega (arith, bytes n) in let r : (x * 256 + b) % 256 ≡ b = omega (arith, bytes n) in
+    let z : 0 + n ≡ n = omega arith in
+    rw (z, q, r) (ap (λ (k : List ℕ). k ++ (b ∷ [])) (bytes-number l bytes n (omega arith)) ∙ sym (take-suc l n 0 (omega arith)))
 
 -- a number behind the bytes p, whatever follows
 pub number-at : (p : List ℕ) (n x : ℕ) (rest : List ℕ) → x < 256 ^ n → number n (p ++ (bytesOf n x ++ rest)) (length p) ≡ x

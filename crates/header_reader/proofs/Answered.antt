@@ -19,11 +19,11 @@ use Rattle.shot.specs.Settings.{settingNumber}
 use Rattle.shot.specs.declared.Setting.{Setting}
 use Rattle.shot.specs.declared.Setting.the-variants.{Taken, Refused}
 use Rattle.shot.proofs.Settings.{never, taken-is}
-use Rattle.codestream.specs.Reading.{headerTests, shotUnder}
+use Rattle.codestream.specs.Reading.{shotTests, headerTests, shotUnder}
 use Rattle.header_reader.specs.declared.Header.{Header}
 use Rattle.header_reader.specs.declared.Headed.{Headed}
 use Rattle.header_reader.specs.Answers.{headerFor, Chosen}
-use Rattle.header_reader.specs.Inner.{refusedWith, rectangleArray, shotTests, Answered}
+use Rattle.header_reader.specs.Inner.{refusedWith, rectangleArray, Answered}
 use Rattle.header_reader.proofs.Arrays.{numbers-length, array-front}
 use Rattle.header_reader.proofs.Tests.{settingFirst, setting-first, others-first}
 
@@ -57,7 +57,7 @@ module _ {l : List ℕ} (good : badHeader l ≡ false) (version : badVersion l �
       let n : refusalNumber r ≡ settingFirst l = sym (ap settingNumber h) ∙ e in
       refused-answer r i (setting-first l good version n (named r))
 
-  pub set-answer : {x : Headed} → 0 ≡ settingFirst l → Answered (first (shotTests l)) l x → Answered (first (headerTests l)) l x
+  pub set-answer : {x : Headed} → 0 ≡ settingFirst l → Answered (first (shotTests (shotOf l))) l x → Answered (first (headerTests l)) l x
   set-answer {x} e a = subst (λ (f : ℕ). Answered f l x) (others-first l good version e) a
 
 -- its own contract

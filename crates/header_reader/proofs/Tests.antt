@@ -13,9 +13,8 @@ use Rattle.refusal.proofs.Ordered.{here, next, none as nothing, numbered, first
 use Rattle.header.specs.Header.{number, badHeader, badVersion}
 use Rattle.header.specs.Fields.{numbers, shotOf}
 use Rattle.shot.specs.Shots.{settingTests}
-use Rattle.codestream.specs.Reading.{badPlanes, headerTests}
+use Rattle.codestream.specs.Reading.{badPlanes, shotTests, headerTests}
 use Rattle.codestream.proofs.Accepted.{Setting, setting-passed}
-use Rattle.header_reader.specs.Inner.{shotTests}
 use Rattle.header_reader.proofs.Arrays.{numbers-length}
 
 -- the numbers of a header are four a rectangle
@@ -26,21 +25,21 @@ numbers-bad k l =
 
 -- ---- behind those of the setting
 module _ (l : List ℕ) {k : ℕ} (count : k ≡ number 1 l 12) where
-  pub many : 32 < k → 7 ≡ first (shotTests l)
+  pub many : 32 < k → 7 ≡ first (shotTests (shotOf l))
   many h = here _ 7 _ (numbers-bad _ l ∙ lt-ltb 32 (number 1 l 12) (omega arith))
 
   module _ (few : k ≤ 32) where
     four : badNumbers (shotOf l .rectangles) ≡ false
     four = numbers-bad _ l ∙ le-ltb 32 (number 1 l 12) (omega arith)
 
-    pub outside : badRectangles (shotOf l .width) (shotOf l .height) (shotOf l .rectangles) ≡ true → 8 ≡ first (shotTests l)
+    pub outside : badRectangles (shotOf l .width) (shotOf l .height) (shotOf l .rectangles) ≡ true → 8 ≡ first (shotTests (shotOf l))
     outside e = next _ 8 7 _ four (here _ 8 _ e)
 
     module _ (inside : badRectangles (shotOf l .width) (shotOf l .height) (shotOf l .rectangles) ≡ false) where
-      pub deep : badPlanes (shotOf l .planes) ≡ true → 14 ≡ first (shotTests l)
+      pub deep : badPlanes (shotOf l .planes) ≡ true → 14 ≡ first (shotTests (shotOf l))
       deep e = next _ 14 7 _ four (next _ 14 8 _ inside (here _ 14 _ e))
 
-      pub none : badPlanes (shotOf l .planes) ≡ false → 0 ≡ first (shotTests l)
+      pub none : badPlanes (shotOf l .planes) ≡ false → 0 ≡ first (shotTests (shotOf l))
       none e = next _ 0 7 _ four (next _ 0 8 _ inside (next _ 0 14 _ e nothing))
 
 -- ---- those of the setting
@@ -65,12 +64,12 @@ module _ (l : List ℕ) where
     version-first e = next _ 13 12 _ good (here _ 13 _ e)
 
     module _ (version : badVersion l ≡ false) where
-      behind : choose (eqb (settingFirst l) 0) (first (shotTests l)) (settingFirst l) ≡ first (headerTests l)
+      behind : choose (eqb (settingFirst l) 0) (first (shotTests (shotOf l))) (settingFirst l) ≡ first (headerTests l)
       unfolding numbered
-      behind = next _ _ 12 _ good (next _ _ 13 _ version (sym (first-append (shotTests l) _ refl)))
+      behind = next _ _ 12 _ good (next _ _ 13 _ version (sym (first-append (shotTests (shotOf l)) _ refl)))
 
       pub setting-first : {x : ℕ} → x ≡ settingFirst l → eqb x 0 ≡ false → x ≡ first (headerTests l)
       setting-first {x} e z = e ∙ (rw (← e, z) refl ∙ behind)
 
-      pub others-first : 0 ≡ settingFirst l → first (shotTests l) ≡ first (headerTests l)
+      pub others-first : 0 ≡ settingFirst l → first (shotTests (shotOf l)) ≡ first (headerTests l)
       others-first e = rw (← e) refl ∙ behind

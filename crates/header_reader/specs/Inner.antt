@@ -2,27 +2,26 @@
 --
 --   refusedWith r      == a refusal, with a header of zeros
 --   rectangleArray l k == the numbers of k rectangles of the stream l, and 0 behind them
---   shotTests l        == the refusals of a header behind those of its setting: 7, 8, 14
 --   Set ..             == what is known of a stream once its setting is taken
 --   Answered f l r     == the answer r, where f is the number of the first test that holds, 0 if none does
 --
 -- Assumes nothing: these are definitions.
 use mathlib.Core.Path.{_≡_}
 use mathlib.Core.Bool.{false}
-use mathlib.Core.List.{List, [], _∷_, _++_}
+use mathlib.Core.List.{List}
 use Prim.Native.Nat.{ℕ, _*_}
 use lib.ListN.{getD}
 use Rattle.kernel.specs.declared.Kernel.{Kernel}
 use Rattle.kernel.specs.Kernels.{theKernel}
 use Rattle.line.specs.Cells.{listed}
-use Rattle.refusal.specs.Numbers.{Test, test, first}
+use Rattle.refusal.specs.Numbers.{first}
 use Rattle.refusal.specs.declared.Refusal.{Refusal}
 use Rattle.header.specs.Header.{badHeader, badVersion}
 use Rattle.header.specs.Fields.{numbers, shotOf}
-use Rattle.shot.specs.Shots.{settingTests, rectangleTests}
+use Rattle.shot.specs.Shots.{settingTests}
 use Rattle.shot.specs.Settings.{settingNumber}
 use Rattle.shot.specs.declared.Setting.the-variants.{Refused}
-use Rattle.codestream.specs.Reading.{badPlanes, noShot, shotUnder}
+use Rattle.codestream.specs.Reading.{noShot, shotUnder}
 use Rattle.header_reader.specs.declared.Headed.{Headed}
 use Rattle.header_reader.specs.Answers.{headerFor, Chosen}
 
@@ -31,9 +30,6 @@ refusedWith r = record { setting = Refused r; header = headerFor noShot }
 
 abbrev pub rectangleArray : List ℕ → ℕ → List ℕ
 rectangleArray l k = listed 128 (λ i. getD (numbers (4 * k) l 14) i 0)
-
-abbrev pub shotTests : List ℕ → List Test
-shotTests l = let s = shotOf l in rectangleTests (s .width) (s .height) (s .rectangles) ++ (test (badPlanes (s .planes)) 14 ∷ [])
 
 pub record Set (l : List ℕ) (chosen : Kernel) (k J D W H : ℕ) : Type 0 where
   pub header : badHeader l ≡ false

@@ -3,10 +3,11 @@ ghost use mathlib.Core.Path.{_≡_};
 ghost use Prim.Native.Nat.{_+_, _*_, _≤_};
 ghost use lib.ListN.{length};
 ghost use Rattle.refusal.specs.Numbers.{first};
+ghost use Rattle.header.specs.Fields.{shotOf};
 ghost use Rattle.shot.specs.Settings.{settingNumber};
-ghost use Rattle.codestream.specs.Reading.{headerTests, noShot, shotUnder};
+ghost use Rattle.codestream.specs.Reading.{shotTests, headerTests, noShot, shotUnder};
 ghost use Rattle.header_reader.specs.Answers.{headerFor, Chosen};
-ghost use Rattle.header_reader.specs.Inner.{rectangleArray, Set, shotTests, Answered, refusedWith};
+ghost use Rattle.header_reader.specs.Inner.{rectangleArray, Set, Answered, refusedWith};
 use kernel::Kernel;
 use refusal::Refusal;
 use shot::Setting;
@@ -104,7 +105,7 @@ fn header_set(
     h: usize,
 ) -> Headed
     requires { ⌜ Set (now stream) chosen kernel levels depth w h ⌝ }
-    ensures { λ r. ⌜ Answered (first (shotTests (now (stream .entry)))) (now (stream .entry)) r ⌝ }
+    ensures { λ r. ⌜ Answered (first (shotTests (shotOf (now (stream .entry))))) (now (stream .entry)) r ⌝ }
 {
     let count = header::one_byte(stream, 12);
     if 32 < count {

@@ -66,11 +66,6 @@ fn commands() -> Words {
     names.filter_map(|line| line.split_whitespace().next()).map(str::to_string).collect()
 }
 
-/// The commands that have a help text of their own.
-fn commands_with_help() -> Vec<String> {
-    commands().into_iter().filter(|command| command != "help").collect()
-}
-
 /// The options of a help text, each in front of what it does.
 fn options_in_help(help: &str) -> Words {
     let lines = between(help, "Options:", &["Exit status:"]);
@@ -95,7 +90,7 @@ fn every_option_of_every_command_and_no_other() {
     let page = page();
     let common = options_in_page(&page, COMMON);
     assert_eq!(options_in_help(&printed(&["--help"])), common);
-    for command in commands_with_help() {
+    for command in commands() {
         let own: Words = options_in_help(&help(&command)).difference(&common).cloned().collect();
         assert_eq!(options_in_page(&page, &command), own, "{command}");
     }
@@ -104,7 +99,7 @@ fn every_option_of_every_command_and_no_other() {
 /// The words of two dashes in text and examples too; those of one dash may be other programs' options.
 #[test]
 fn no_option_that_no_help_has() {
-    let known: Words = commands_with_help().iter().flat_map(|command| options_in_help(&help(command))).collect();
+    let known: Words = commands().iter().flat_map(|command| options_in_help(&help(command))).collect();
     let named: Words = page().lines().flat_map(options).filter(|option| option.starts_with("--")).collect();
     assert_eq!(named.difference(&known).collect::<Vec<_>>(), Vec::<&String>::new());
 }
@@ -114,7 +109,7 @@ fn no_option_that_no_help_has() {
 fn every_default_and_every_possible_value() {
     let page = page();
     let text = page.replace(['\n', '(', ')'], " ").replace(".B ", "").replace(".BR ", "").replace(".IR ", "");
-    for command in commands_with_help() {
+    for command in commands() {
         let help = help(&command);
         let defaults = help.split("[default: ").skip(1).filter_map(|rest| rest.split(']').next());
         for default in defaults.filter(|default| !default.contains(' ')) {
