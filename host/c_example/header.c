@@ -154,19 +154,19 @@ void check_version(void) {
     char text[16];
     snprintf(text, sizeof text, "%d.%d.%d", DHIIRQOBAAL_VERSION_MAJOR, DHIIRQOBAAL_VERSION_MINOR, DHIIRQOBAAL_VERSION_PATCH);
     expect(dhiirqobaal_version() == DHIIRQOBAAL_VERSION, "the library's version is the header's");
-    expect(DHIIRQOBAAL_VERSION == 10000, "the version's number");
-    expect(strcmp(DHIIRQOBAAL_VERSION_TEXT, text) == 0 && strcmp(text, "1.0.0") == 0, "the version's text");
+    expect(DHIIRQOBAAL_VERSION == 10100, "the version's number");
+    expect(strcmp(DHIIRQOBAAL_VERSION_TEXT, text) == 0 && strcmp(text, "1.1.0") == 0, "the version's text");
 }
 
 /* Each text speaks of what docs/FORMAT.md refuses under its number. */
 void check_texts(void) {
     static const char *const words[] = {
-        "accepted", "kernel", "levels J", "depth D", "4,096", "width times height", "sample", "32 rectangles",
+        "accepted", "kernel", "levels J", "depth D", "4,096", "the picture or the area", "sample", "32 rectangles",
         "inside the picture", "mask byte", "2^22", "too short", "length field", "version", "T is above 22", "region mark",
-        "filling bit", "does not have"};
+        "filling bit", "level r is above", "does not have"};
     uint64_t number, other;
     int apart = 1;
-    for (number = 0; number <= 17; number++) {
+    for (number = 0; number <= 18; number++) {
         const char *text = dhiirqobaal_refusal_text(number);
         expect(strstr(text, words[number]) != NULL, words[number]);
         for (other = 0; other < number; other++) {
@@ -175,5 +175,5 @@ void check_texts(void) {
     }
     expect(apart, "each number has a text of its own");
     expect(strcmp(dhiirqobaal_refusal_text(0), "accepted") == 0, "the text of 0");
-    expect(strcmp(dhiirqobaal_refusal_text(UINT64_MAX), dhiirqobaal_refusal_text(17)) == 0, "the text of a number that is none");
+    expect(strcmp(dhiirqobaal_refusal_text(UINT64_MAX), dhiirqobaal_refusal_text(18)) == 0, "the text of a number that is none");
 }

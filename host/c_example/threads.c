@@ -13,6 +13,7 @@ static int there_and_back(const struct shot *shot) {
     uint16_t shown[MOST_CELLS];
     uint64_t results[DHIIRQOBAAL_HEADER_RESULTS];
     size_t cells = shot->w * shot->h, length = shot->length;
+    size_t places = halved(shot->levels, shot->w); /* the lowest area of each worked picture is one row */
     return dhiirqobaal_transform(shot->kernel, shot->levels, 8, shot->w, shot->h, shot->samples, cells, plane, cells) == 0 &&
            dhiirqobaal_write(plane, cells, shot->numbers, shot->numbers_len, shot->kernel, shot->levels, 8, shot->w, shot->h, mask,
                              cells, stream, sizeof stream, results, 3) == 0 &&
@@ -22,6 +23,12 @@ static int there_and_back(const struct shot *shot) {
            dhiirqobaal_read(stream, length, plane, cells, mask, cells, results, 4) == 0 && results[1] == 1 &&
            dhiirqobaal_undo(shot->kernel, shot->levels, shot->w, shot->h, plane, cells, undone, cells) == 0 &&
            dhiirqobaal_show(8, shot->w, shot->h, undone, cells, shown, cells) == 0 &&
+           memcmp(shown, shot->samples, cells * sizeof *shown) == 0 &&
+           dhiirqobaal_show_stream(stream, length, shot->levels, plane, cells, mask, cells, undone, places, shown, places,
+                                   results, 4) == 0 &&
+           memcmp(undone, plane, places * sizeof *undone) == 0 &&
+           dhiirqobaal_show_level(shot->kernel, shot->levels, 0, 8, shot->w, shot->h, plane, cells, undone, cells, shown,
+                                  cells) == 0 &&
            memcmp(shown, shot->samples, cells * sizeof *shown) == 0;
 }
 

@@ -38,6 +38,9 @@ static void check_pictures(void) {
     expect(dhiirqobaal_undo(0, 1, 2, 2, plane, 4, undone, 4) == 0, "undo");
     expect(dhiirqobaal_show(8, 2, 2, undone, 4, shown, 4) == 0, "show");
     expect(memcmp(shown, samples, sizeof shown) == 0, "samples");
+    expect(dhiirqobaal_show_level(0, 1, 1, 8, 2, 2, plane, 4, undone, 1, shown, 1) == 0 && shown[0] == 6, "show level 1");
+    expect(dhiirqobaal_show_level(0, 1, 1, 8, 2, 2, plane, 4, undone, 4, shown, 4) == 5, "level 1 into four cells");
+    expect(dhiirqobaal_show_level(0, 1, 2, 8, 2, 2, plane, 4, undone, 1, shown, 1) == 17, "level 2 of one");
     expect(dhiirqobaal_truncate(2, 2, 2, none, 4, dropped, 4) == 0, "truncate");
     expect(memcmp(dropped, kept, sizeof dropped) == 0, "dropped planes");
 }
@@ -235,6 +238,8 @@ int main(void) {
     check_asking();
     check_arrived();
     check_header();
+    check_levels();
+    check_level_streams();
     check_version();
     check_texts();
     check_threads();

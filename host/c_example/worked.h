@@ -25,9 +25,20 @@ struct shot {
 #define MOST_CELLS 32 /* of a worked picture */
 extern const struct shot shots[SHOTS];
 
+/* A side halved and rounded up, r times over. */
+size_t halved(size_t r, size_t side);
+
+/* What is shown of an undone number. */
+uint16_t in_range(int32_t number, size_t depth);
+
+#define WIDTHS 14 /* of pictures of one row */
+extern const size_t widths[WIDTHS];
+
 /* Each in a file of its own. */
 void check_arrived(void);
 void check_header(void);
+void check_levels(void);
+void check_level_streams(void);
 void check_version(void);
 void check_texts(void);
 void check_threads(void);

@@ -4,6 +4,7 @@
  * The library is a static one, target/staticlib/libinterface.a in the repository, made by `rt staticlib interface`.
  * `sh host/install.sh PREFIX` installs it as PREFIX/lib/libdhiirqobaal.a, with this header and a pkg-config file:
  *   cc program.c $(pkg-config --cflags --libs dhiirqobaal)
+ * It is C99 or later, or C++.
  * docs/FORMAT.md of the repository, which is not installed, has the format with its formulas and worked examples.
  *
  * TERMS
@@ -18,13 +19,22 @@
  *   region     one byte a sample: 1 inside any rectangle, else 0
  *   mask       one byte a coefficient: 1 for those that make the region's samples exact (the marked ones), else 0
  *   plane      the coefficients of a picture; an accepted one has magnitudes below 2^22 alone
- *   undone     what undoing a plane gives: whole numbers of either sign, not yet brought into range
+ *   undone     what undoing a plane gives, all of its levels or the deepest: whole numbers of either sign, not yet
+ *              brought into range
  *   T          bit planes in a stream, 0 to 22. dhiirqobaal_write takes as many as the largest magnitude has binary
  *              digits; in a stream that is read T may be larger than needed, its highest planes then hold no 1
  *   q          planes of the unmarked coefficients that were dropped or did not arrive
  *   region mark  the shortest length that dhiirqobaal_cut takes: from it on a cut stream has every bit of the marked
  *              coefficients
- * Pictures, regions, masks, planes and undone numbers are stored row by row, W * H elements each.
+ *   r          a level, 0 to J
+ *   level r's area  what r levels leave of a picture: its upper left DHIIRQOBAAL_SIDE(r, W) columns and
+ *              DHIIRQOBAAL_SIDE(r, H) rows, each side halved and rounded up, r times over; for r = 0 the whole picture
+ *   picture at level r  the whole numbers in level r's area when the deepest J - r levels of a plane are undone; for
+ *              r = 0 the undone numbers, for r = J the lowest area as the plane has it
+ *   level r's mask  the mask of the region after r levels, on level r's area; for r = 0 the region. For r from 1 on
+ *              dhiirqobaal_mask, called with r for J, gives it in the upper left of its buffer
+ * Pictures, regions, masks, planes and undone numbers are stored row by row, W * H elements each; a picture at level r
+ * likewise, its rows one directly behind the other, as many elements as level r's area has places.
  *
  * WHERE LOWS AND HIGHS LIE
  * A level works on an area, the upper left w columns and h rows of the buffer; the first area is the whole picture.
@@ -50,7 +60,8 @@
  *    2  J not 1 to 5
  *    3  D not 1 to 10; in dhiirqobaal_truncate, which has no D, q above 22
  *    4  W or H not 1 to 4,096
- *    5  a picture, region, mask, plane or undone buffer is not W * H elements long
+ *    5  a buffer for a picture, region, mask, plane, undone numbers or shown samples is not W * H elements long, or, of
+ *       undone and shown in dhiirqobaal_show_level and dhiirqobaal_show_stream, not as long as level r's area
  *    6  a sample above 2^D - 1
  *    7  the number of rectangle numbers is not a multiple of 4, or there are more than 32 rectangles
  *    8  a rectangle is empty (width or height 0) or not wholly inside the picture
@@ -63,10 +74,11 @@
  *   14  the stream's T is above 22
  *   15  the wanted length is below the region mark or above the stream's length, or the marked part is not whole
  *   16  behind a complete body the stream has a filling bit that is not 0, or a further byte
- * The order over all calls is 12, 13, 1, 2, 3, 4, 7, 8, 14, 5, 6, 9, 10, 16, 15, 11.
+ *   17  r above J
+ * The order over all calls is 12, 13, 1, 2, 17, 3, 4, 7, 8, 14, 5, 6, 9, 10, 16, 15, 11.
  *
  * Under a refusal every output buffer other than results holds what it held, with these exceptions alone:
- *   16  dhiirqobaal_read and dhiirqobaal_cut: plane and mask are all 0
+ *   16  dhiirqobaal_read, dhiirqobaal_show_stream and dhiirqobaal_cut: plane and mask are all 0
  *   15  dhiirqobaal_cut: plane and mask hold what dhiirqobaal_read gives for the stream
  *   11  dhiirqobaal_cut: the same; dhiirqobaal_write: mask holds the mask
  *
@@ -102,11 +114,26 @@
  * A call that broke off leaves the first bytes of a stream, whose length field still says how many were sent.
  *   1. dhiirqobaal_arrived with the bytes that are there makes them the stream cut to what arrived.
  *   2. dhiirqobaal_header gives W and H: plane, mask, undone and shown need W * H elements each.
- *   3. dhiirqobaal_read gives plane and mask; results[DHIIRQOBAAL_READ_WHOLE] is 1 if every marked bit arrived.
- *   4. dhiirqobaal_undo and dhiirqobaal_show, with the header's numbers, give the picture.
+ *   3. dhiirqobaal_show_stream with r = 0 gives the picture in shown; results[DHIIRQOBAAL_READ_WHOLE] is 1 if every
+ *      marked bit arrived.
+ * Step 3 in single calls: dhiirqobaal_read gives plane, mask and the same results; dhiirqobaal_undo and
+ * dhiirqobaal_show, with the header's numbers, give the picture.
  * A whole stream and one that dhiirqobaal_cut gave take the same way: dhiirqobaal_arrived leaves them as they are.
  * dhiirqobaal_arrived overwrites the length field, so that with more bytes behind them they are refused (12). To show a
  * stream while more of it comes in, work on a copy, or put results[0] - 4 back into the field before the next call.
+ *
+ * A small picture first, to see which screen is up before the fine levels are undone: dhiirqobaal_show_stream with r
+ * from 1 to the header's J. undone and shown are then as long as level r's area, plane and mask W * H as with r = 0. A
+ * finer picture of the same stream needs no second reading: dhiirqobaal_show_level takes the plane.
+ * Of a small picture this is exact: cut to any length from its region mark to its own, a stream that is accepted with
+ * its marked part whole shows every place that level r's mask marks as it does uncut. Where it was written from the
+ * plane of an accepted picture, with the kernel, J, D, W and H under which that was transformed, undone holds in these
+ * places what the picture's own transform after r levels has there, and shown the same brought into range. Among these
+ * places is each place (x, y) whose block holds a sample of the region: 2^r by 2^r samples from (x * 2^r, y * 2^r) on,
+ * as far as the picture goes.
+ * Level r's mask, where more of it is wanted: dhiirqobaal_region with the header's rectangles gives the region, level
+ * 0's mask; from that dhiirqobaal_mask with r for J, r from 1 on, gives level r's in the upper left of its buffer. The
+ * mask that dhiirqobaal_show_stream gives is another one, after J levels.
  *
  * THE LINK
  * The bytes must arrive unchanged, in their order, none left out. The format has no check sum: a changed bit is read as
@@ -157,11 +184,11 @@ extern "C" {
 
 /* The version: of this header, and by dhiirqobaal_version of the library. 10,000 major + 100 minor + patch. */
 #define DHIIRQOBAAL_VERSION_MAJOR 1
-#define DHIIRQOBAAL_VERSION_MINOR 0
+#define DHIIRQOBAAL_VERSION_MINOR 1
 #define DHIIRQOBAAL_VERSION_PATCH 0
 #define DHIIRQOBAAL_VERSION \
     (10000 * DHIIRQOBAAL_VERSION_MAJOR + 100 * DHIIRQOBAAL_VERSION_MINOR + DHIIRQOBAAL_VERSION_PATCH)
-#define DHIIRQOBAAL_VERSION_TEXT "1.0.0"
+#define DHIIRQOBAAL_VERSION_TEXT "1.1.0"
 
 /* The limits. */
 #define DHIIRQOBAAL_MAX_SIDE 4096
@@ -170,15 +197,23 @@ extern "C" {
 #define DHIIRQOBAAL_MAX_RECTANGLES 32
 #define DHIIRQOBAAL_MAX_PLANES 22
 
+/*
+ * The side of level r's area in a picture with that side: the side halved and rounded up, r times over. For r from 0 to
+ * DHIIRQOBAAL_MAX_LEVELS and a side from 1 to DHIIRQOBAAL_MAX_SIDE; r is evaluated twice.
+ */
+#define DHIIRQOBAAL_SIDE(r, side) (((side) + (1u << (r)) - 1u) >> (r))
+
 /* The bytes of stack that a call needs at most, below the caller's stack pointer. */
 #define DHIIRQOBAAL_STACK_REGION 1024
 #define DHIIRQOBAAL_STACK_MASK 40960
 #define DHIIRQOBAAL_STACK_TRANSFORM 143360
 #define DHIIRQOBAAL_STACK_UNDO 20480
 #define DHIIRQOBAAL_STACK_SHOW 1024
+#define DHIIRQOBAAL_STACK_SHOW_LEVEL 20480
 #define DHIIRQOBAAL_STACK_TRUNCATE 1024
 #define DHIIRQOBAAL_STACK_WRITE 40960
 #define DHIIRQOBAAL_STACK_READ 40960
+#define DHIIRQOBAAL_STACK_SHOW_STREAM 61440
 #define DHIIRQOBAAL_STACK_CUT 40960
 #define DHIIRQOBAAL_STACK_BODY 1024
 #define DHIIRQOBAAL_STACK_ARRIVED 1024
@@ -203,7 +238,8 @@ enum dhiirqobaal_refusal {
     DHIIRQOBAAL_BAD_VERSION = 13,
     DHIIRQOBAAL_BAD_PLANES = 14,
     DHIIRQOBAAL_BAD_CUT = 15,
-    DHIIRQOBAAL_BAD_FILLING = 16
+    DHIIRQOBAAL_BAD_FILLING = 16,
+    DHIIRQOBAAL_BAD_LEVEL = 17
 };
 
 /* Where dhiirqobaal_write stores its result numbers. */
@@ -214,7 +250,7 @@ enum dhiirqobaal_write_result {
     DHIIRQOBAAL_WRITE_RESULTS = 3      /* how many they are */
 };
 
-/* Where dhiirqobaal_read stores its result numbers. */
+/* Where dhiirqobaal_read and dhiirqobaal_show_stream store their result numbers. */
 enum dhiirqobaal_read_result {
     DHIIRQOBAAL_READ_MARKS = 0,       /* number of marked coefficients */
     DHIIRQOBAAL_READ_WHOLE = 1,       /* 1 if the marked part is whole, else 0 */
@@ -264,7 +300,7 @@ enum dhiirqobaal_header_result {
 };
 
 /*
- * The meaning of a refusal's number, 1 to 16, as a text; that of 0 is "accepted". It never returns null, whatever the
+ * The meaning of a refusal's number, 1 to 17, as a text; that of 0 is "accepted". It never returns null, whatever the
  * number, and the text is not to be freed or changed.
  */
 static inline const char *dhiirqobaal_refusal_text(uint64_t number)
@@ -275,7 +311,7 @@ static inline const char *dhiirqobaal_refusal_text(uint64_t number)
     case 2: return "the levels J are not 1 to 5";
     case 3: return "the depth D is not 1 to 10 (in dhiirqobaal_truncate: q is above 22)";
     case 4: return "width or height is not 1 to 4,096";
-    case 5: return "a buffer does not have width times height elements";
+    case 5: return "a buffer is not as long as the picture or the area that it is for";
     case 6: return "a sample is above 2^D - 1";
     case 7: return "there are more than 32 rectangles, or not four numbers for each";
     case 8: return "a rectangle is empty or not wholly inside the picture";
@@ -287,6 +323,7 @@ static inline const char *dhiirqobaal_refusal_text(uint64_t number)
     case 14: return "the stream's plane count T is above 22";
     case 15: return "the wanted length is below the region mark or above the stream's length, or the marked part is not whole";
     case 16: return "behind the complete body there is a filling bit that is not 0, or a further byte";
+    case 17: return "the level r is above the levels J";
     default: return "a number that the interface does not have";
     }
 }
@@ -354,6 +391,23 @@ uint64_t dhiirqobaal_show(size_t depth, size_t w, size_t h, const int32_t *undon
                           uint16_t *shown, size_t shown_len);
 
 /*
+ * Shows a plane at level r: undoes its deepest J - r levels alone, and brings what stands in level r's area into range.
+ *   kernel, levels, r, depth, w, h  kernel, J, r, D, W and H
+ *   plane                           W * H coefficients with magnitudes below 2^22
+ *   undone                          written, as many whole numbers of either sign as level r's area has places
+ *   shown                           written, as many samples
+ * Refusals in their order: 1, 2, 17, 3, 4, 5 (plane not W * H, undone or shown not as long as level r's area), 10 (any
+ * coefficient of the plane, outside the area too).
+ * Accepted: undone is the picture at level r; shown is 0 for a number of undone below 0, 2^D - 1 for one above that,
+ * else the number. With r = 0 they are what dhiirqobaal_undo and dhiirqobaal_show give. Under each refusal: undone and
+ * shown as they were.
+ * It needs at most 20,480 bytes of stack, DHIIRQOBAAL_STACK_SHOW_LEVEL.
+ */
+uint64_t dhiirqobaal_show_level(size_t kernel, size_t levels, size_t r, size_t depth, size_t w, size_t h,
+                                const int32_t *plane, size_t plane_len, int32_t *undone, size_t undone_len,
+                                uint16_t *shown, size_t shown_len);
+
+/*
  * Drops the lowest q planes of every unmarked coefficient, in place.
  *   q      0 to 22
  *   w, h   W and H
@@ -402,13 +456,37 @@ uint64_t dhiirqobaal_write(const int32_t *plane, size_t plane_len, const uint32_
  * are 0, and a coefficient whose first 1 arrived without its sign is 0. A T larger than needed is taken. whole is 1
  * if every bit of the marked part arrived, as it always is where nothing is marked; region mark is 0 if not. q is the
  * number of planes of the unmarked that were not wholly received: T if the marked part is not whole; 0 if it is and
- * nothing is unmarked. The plane is accepted by dhiirqobaal_undo.
+ * nothing is unmarked. The plane is accepted by dhiirqobaal_undo and dhiirqobaal_show_level.
  * Under 16: plane and mask are all 0, the 139 result numbers are 0.
  * Under 12, 13, 1, 2, 3, 4, 7, 8, 14 and 5: plane and mask hold what they held, the 139 result numbers are 0.
  * It needs at most 40,960 bytes of stack, DHIIRQOBAAL_STACK_READ.
  */
 uint64_t dhiirqobaal_read(const uint8_t *stream, size_t stream_len, int32_t *plane, size_t plane_len, uint8_t *mask,
                           size_t mask_len, uint64_t *results, size_t results_len);
+
+/*
+ * Shows a stream, whole or cut, at level r: reads it, undoes the deepest J - r levels and brings what stands in level
+ * r's area into range, each with what its header says. With r = 0 it shows the full picture: dhiirqobaal_read,
+ * dhiirqobaal_undo and dhiirqobaal_show in one call.
+ *   stream   all bytes of the stream and no others
+ *   r        0 to J; dhiirqobaal_header gives J, W and H, and a larger r has no area to size a buffer by
+ *   plane    written, W * H coefficients
+ *   mask     written, W * H bytes: the mask after J levels, whatever r is, not level r's mask
+ *   undone   written, as many whole numbers of either sign as level r's area has places
+ *   shown    written, as many samples
+ *   results  139 in all, those of dhiirqobaal_read in the same places
+ * Refusals in their order: 12, 13, 1, 2, 17, 3, 4, 7 (k above 32), 8, 14, 5 (plane or mask not W * H, undone or shown
+ * not as long as level r's area), 16.
+ * Accepted: plane, mask and results are what dhiirqobaal_read gives for the stream; undone and shown are what
+ * dhiirqobaal_show_level gives for that plane with the header's numbers.
+ * Under 16: plane and mask are all 0, undone and shown hold what they held, the 139 result numbers are 0.
+ * Under 12, 13, 1, 2, 17, 3, 4, 7, 8, 14 and 5: plane, mask, undone and shown hold what they held, the 139 result
+ * numbers are 0.
+ * It needs at most 61,440 bytes of stack, DHIIRQOBAAL_STACK_SHOW_STREAM.
+ */
+uint64_t dhiirqobaal_show_stream(const uint8_t *stream, size_t stream_len, size_t r, int32_t *plane, size_t plane_len,
+                                 uint8_t *mask, size_t mask_len, int32_t *undone, size_t undone_len, uint16_t *shown,
+                                 size_t shown_len, uint64_t *results, size_t results_len);
 
 /*
  * Copies a stream, cut to a wanted total length.
@@ -466,19 +544,20 @@ uint64_t dhiirqobaal_arrived(uint8_t *stream, size_t stream_len, uint64_t *resul
 
 /*
  * The numbers of a stream's header, without any buffer. A caller sizes its buffers by them: plane and mask for
- * dhiirqobaal_read, undone and shown for the picture have W * H elements each, 16,777,216 at most.
+ * dhiirqobaal_read, undone and shown for the picture have W * H elements each, 16,777,216 at most; for the picture at
+ * level r undone and shown have DHIIRQOBAAL_SIDE(r, W) * DHIIRQOBAAL_SIDE(r, H).
  *   stream   all bytes of the stream and no others; of the body the length alone matters
  *   results  0 kernel, 1 J, 2 D, 3 W, 4 H, 5 T, 6 k, then 128 rectangle numbers, x, y, width and height of each
  *            rectangle in turn, 0 behind the last: 135 in all
  * Refusals in their order: 12, 13, 1, 2, 3, 4, 7 (k above 32), 8, 14.
- * Accepted: the 135 result numbers are those of the header; of dhiirqobaal_read's refusals 5 and 16 are left. Under
- * each refusal all 135 are 0. The stream is not written.
+ * Accepted: the 135 result numbers are those of the header; of dhiirqobaal_read's refusals 5 and 16 are left, of
+ * dhiirqobaal_show_stream's 17 as well. Under each refusal all 135 are 0. The stream is not written.
  * It needs at most 4,096 bytes of stack, DHIIRQOBAAL_STACK_HEADER.
  */
 uint64_t dhiirqobaal_header(const uint8_t *stream, size_t stream_len, uint64_t *results, size_t results_len);
 
 /*
- * The library's version, 10,000 major + 100 minor + patch: 10000 for 1.0.0. A program that was compiled with the header
+ * The library's version, 10,000 major + 100 minor + patch: 10100 for 1.1.0. A program that was compiled with the header
  * of the same version finds it equal to DHIIRQOBAAL_VERSION. It takes nothing and refuses nothing.
  * It needs at most 1,024 bytes of stack, DHIIRQOBAAL_STACK_VERSION.
  */

@@ -1,7 +1,7 @@
 /*
  * A bench program as one would write it against the installed library: shows what has arrived of a stream, whole or
  * broken off. Prints how many bytes arrived, whether every bit of the rectangles did (with no rectangle, of the
- * picture), and the picture's rows.
+ * picture), the rows of the smallest picture, before any level is undone, and then those of the whole one.
  * Usage: bench STREAM. Exit status: 0 every such bit arrived, 1 not every one, 2 wrong usage or no file, 3 refused.
  */
 #include <dhiirqobaal.h>
@@ -62,22 +62,25 @@ static int tell(const uint64_t *read)
     return whole;
 }
 
-/* Shows the stream and returns whether all that counts arrived. */
+/* Shows the stream, small and then whole, and returns whether all that counts arrived. */
 static int show(uint8_t *stream, size_t length)
 {
     uint64_t sent[DHIIRQOBAAL_ARRIVED_RESULTS], header[DHIIRQOBAAL_HEADER_RESULTS], read[DHIIRQOBAAL_READ_RESULTS];
     need(dhiirqobaal_arrived(stream, length, sent, DHIIRQOBAAL_ARRIVED_RESULTS));
     need(dhiirqobaal_header(stream, length, header, DHIIRQOBAAL_HEADER_RESULTS));
     size_t w = (size_t)header[DHIIRQOBAAL_HEADER_WIDTH], h = (size_t)header[DHIIRQOBAAL_HEADER_HEIGHT], cells = w * h;
+    size_t levels = (size_t)header[DHIIRQOBAAL_HEADER_LEVELS];
+    size_t small_w = DHIIRQOBAAL_SIDE(levels, w), small_h = DHIIRQOBAAL_SIDE(levels, h), few = small_w * small_h;
     int32_t *plane = room(cells, sizeof *plane), *undone = room(cells, sizeof *undone);
     uint8_t *mask = room(cells, 1);
     uint16_t *shown = room(cells, sizeof *shown);
-    need(dhiirqobaal_read(stream, length, plane, cells, mask, cells, read, DHIIRQOBAAL_READ_RESULTS));
-    need(dhiirqobaal_undo((size_t)header[DHIIRQOBAAL_HEADER_KERNEL], (size_t)header[DHIIRQOBAAL_HEADER_LEVELS], w, h, plane,
-                          cells, undone, cells));
-    need(dhiirqobaal_show((size_t)header[DHIIRQOBAAL_HEADER_DEPTH], w, h, undone, cells, shown, cells));
+    need(dhiirqobaal_show_stream(stream, length, levels, plane, cells, mask, cells, undone, few, shown, few, read,
+                                 DHIIRQOBAAL_READ_RESULTS));
     printf("%zu of %llu bytes arrived\n", length, (unsigned long long)sent[DHIIRQOBAAL_ARRIVED_SENT]);
     int whole = tell(read);
+    print_rows(shown, small_w, small_h);
+    need(dhiirqobaal_show_level((size_t)header[DHIIRQOBAAL_HEADER_KERNEL], levels, 0,
+                                (size_t)header[DHIIRQOBAAL_HEADER_DEPTH], w, h, plane, cells, undone, cells, shown, cells));
     print_rows(shown, w, h);
     free(plane);
     free(undone);

@@ -125,10 +125,12 @@ bench() {
     expect "a stream of the tool" place/bin/dhiirqobaal encode panel.pgm panel.stream --rect 6,2,1,2 --kernel 3 --levels 2
     expect "the stream's bytes" same "$(od -An -v -tx1 panel.stream | tr -d ' \n')" "$stream"
     expect "the whole stream" ends 0 '54 of 54 bytes arrived' ./bench panel.stream
+    expect "the whole stream: the picture at level 2" same "$(./bench panel.stream | sed -n 3p)" '0 109'
     expect "the whole stream: the picture" same "$(./bench panel.stream | tail -n 4)" "$picture"
     for length in 36 35 22 21; do head -c $length panel.stream >part.$length; done
     expect "36 bytes" ends 0 '36 of 54 bytes arrived' ./bench part.36
     expect "36 bytes are exact" same "$(./bench part.36 | sed -n 2p)" 'exact: every marked bit arrived'
+    expect "36 bytes: the picture at level 2" same "$(./bench part.36 | sed -n 3p)" '0 109'
     expect "36 bytes: the picture" same "$(./bench part.36 | tail -n 4)" "$cut"
     expect "35 bytes" ends 1 'not exact' ./bench part.35
     expect "22 bytes, the header alone" ends 1 '22 of 54 bytes arrived' ./bench part.22

@@ -34,6 +34,22 @@ static uint64_t call_show(size_t kernel)
     return dhiirqobaal_show(DEPTH, width, height, undone, cells, shown, cells);
 }
 
+static size_t area(size_t r)
+{
+    return DHIIRQOBAAL_SIDE(r, width) * DHIIRQOBAAL_SIDE(r, height);
+}
+
+/* At every level: how many are undone may decide how deep the call goes. */
+static uint64_t call_show_level(size_t kernel)
+{
+    uint64_t refusal = DHIIRQOBAAL_ACCEPTED;
+    for (size_t r = 0; r <= LEVELS && refusal == DHIIRQOBAAL_ACCEPTED; ++r) {
+        refusal = dhiirqobaal_show_level(kernel, LEVELS, r, DEPTH, width, height, plane, cells, undone, area(r), shown,
+                                         area(r));
+    }
+    return refusal;
+}
+
 static uint64_t call_region(size_t kernel)
 {
     (void)kernel;
@@ -86,6 +102,17 @@ static uint64_t call_read(size_t kernel)
     return dhiirqobaal_read(stream, total, plane, cells, mask, cells, results, DHIIRQOBAAL_READ_RESULTS);
 }
 
+static uint64_t call_show_stream(size_t kernel)
+{
+    uint64_t refusal = DHIIRQOBAAL_ACCEPTED;
+    (void)kernel;
+    for (size_t r = 0; r <= LEVELS && refusal == DHIIRQOBAAL_ACCEPTED; ++r) {
+        refusal = dhiirqobaal_show_stream(stream, total, r, plane, cells, mask, cells, undone, area(r), shown, area(r),
+                                          results, DHIIRQOBAAL_READ_RESULTS);
+    }
+    return refusal;
+}
+
 static uint64_t call_cut(size_t kernel)
 {
     (void)kernel;
@@ -103,6 +130,7 @@ struct function functions[] = {
     {"transform", DHIIRQOBAAL_STACK_TRANSFORM, call_transform, 0, 0, 0},
     {"undo", DHIIRQOBAAL_STACK_UNDO, call_undo, 0, 0, 0},
     {"show", DHIIRQOBAAL_STACK_SHOW, call_show, 0, 0, 0},
+    {"show_level", DHIIRQOBAAL_STACK_SHOW_LEVEL, call_show_level, 0, 0, 0},
     {"region", DHIIRQOBAAL_STACK_REGION, call_region, 0, 0, 0},
     {"mask", DHIIRQOBAAL_STACK_MASK, call_mask, 0, 0, 0},
     {"truncate", DHIIRQOBAAL_STACK_TRUNCATE, call_truncate, 0, 0, 0},
@@ -111,6 +139,7 @@ struct function functions[] = {
     {"header", DHIIRQOBAAL_STACK_HEADER, call_header, 0, 0, 0},
     {"body", DHIIRQOBAAL_STACK_BODY, call_body, 0, 0, 0},
     {"read", DHIIRQOBAAL_STACK_READ, call_read, 0, 0, 0},
+    {"show_stream", DHIIRQOBAAL_STACK_SHOW_STREAM, call_show_stream, 0, 0, 0},
     {"cut", DHIIRQOBAAL_STACK_CUT, call_cut, 0, 0, 0},
     {"version", DHIIRQOBAAL_STACK_VERSION, call_version, 0, 0, 0},
 };

@@ -49,7 +49,7 @@ pub fn read(stream: &[u8], plane: &mut [i32], mask: &mut [u8]) -> Reading
 }
 
 // A refusal, with a header of zeros.
-fn refused(refusal: Refusal) -> Reading
+pub fn refused(refusal: Refusal) -> Reading
     ensures { λ r. ⌜ r ≡ refusedWith refusal ⌝ }
 {
     let header = header_reader::no_header();
@@ -60,7 +60,7 @@ fn refused(refusal: Refusal) -> Reading
 }
 
 // The refusals behind those of the header, the mask, and then the body.
-fn read_headed(
+pub fn read_headed(
     kernel: Kernel,
     header: Header,
     stream: &[u8],

@@ -1,29 +1,25 @@
 -- The region as captured: a stream written from the plane of an accepted picture, with the kernel, J, D, W and H under which it was transformed,
--- shows the picture, and each of its cuts from the region mark on shows the picture's region. Assumes nothing.
+-- shows the picture, and each of its cuts from the region mark on shows the picture's region; at level r, the picture's own transform with r levels.
+-- Assumes nothing.
 use mathlib.Core.Path.{_≡_, refl, sym, ap, ap₂, _∙_, subst}
 use mathlib.Core.Bool.{true}
 use mathlib.Core.List.{List}
-use Prim.Native.Nat.{ℕ, _+_, _*_, _-_, _/_, _%_, _^_, _<_, _≤_}
-use native.Mathlib.Nat.{mul-comm, mod-lt}
+use Prim.Native.Nat.{ℕ, _*_, _-_, _^_, _<_, _≤_}
+use native.Mathlib.Nat.{mul-comm}
 use native.Mathlib.Omega.{arith}
-use lib.Arith.{digits-div, digits-mod}
 use lib.IntN.{ℤ, pos}
 use lib.ListN.{length, getD, take}
 use borrow.Author.Tests.{eqb-true, not-false}
-use Rattle.kernel.specs.Kernels.{theKernel}
-use Rattle.line.proofs.Lists.{listed-cell}
-use Rattle.grid.specs.Picture.{Picture, AgreeOn}
-use Rattle.grid.proofs.Passes.{cell, cell-of}
-use Rattle.plane.specs.Plane.{transformed, maskOf}
-use Rattle.plane.proofs.Inverse.{undo-transform}
+use Rattle.grid.specs.Picture.{side, walk}
+use Rattle.grid.proofs.Passes.{cell-of}
 use Rattle.bitplane.specs.Reader.{Answer}
 use Rattle.refusal.specs.Numbers.{accepted}
 use Rattle.refusal.specs.Tests.{badKernel, badLevels, badDepth, badSize, badLength, badSample}
 use Rattle.refusal.proofs.Ordered.{passes-test}
 use Rattle.refusal.proofs.Passed.{Sides, sides, samples}
-use Rattle.wavelet.specs.Wavelet.{samplesOf, coefficientsOf, coefficient, transformTests}
+use Rattle.wavelet.specs.Wavelet.{transformTests}
 use Rattle.samples.specs.Samples.{inRange}
-use Rattle.header.specs.Fields.{Shot}
+use Rattle.header.specs.Fields.{Shot, shotOf}
 use Rattle.header.specs.Arrival.{cutTo, arrivedOf}
 use Rattle.codestream.specs.Stream.{area, regionMark, totalLength, stream}
 use Rattle.codestream.specs.Writing.{shotFor, writeTests}
@@ -33,9 +29,10 @@ use Rattle.codestream.proofs.Parts.{Parts, stream-parts, stream-length}
 use Rattle.codestream.proofs.Bodies.{body-whole}
 use Rattle.codestream.proofs.Cuts.{Cuttable}
 use Rattle.codestream.proofs.RoundTrip.{answer-read, tests-read, plane-read}
-use Rattle.exactness.specs.Shown.{shownAt, inRegionAt, planeFor}
-use Rattle.exactness.proofs.Regions.{undoneOf, row-in, place-in, undone-agrees}
-use Rattle.exactness.proofs.Cuts.{every-cut, arrived-is}
+use Rattle.exactness.specs.Shown.{shownAt, inRegionAt, planeFor, levelArea, levelNumberAt, levelSampleAt, ownNumber, inLevelAt}
+use Rattle.exactness.proofs.Levels.{number-at, area-full, number-own}
+use Rattle.exactness.proofs.Regions.{numberOf}
+use Rattle.exactness.proofs.Cuts.{level-cut, level-shown, every-cut, arrived-is}
 use Rattle.exactness.proofs.Written.{stream-bytes}
 
 -- a sample in range is shown as it is
@@ -60,19 +57,10 @@ pictured k J D W H l n ok =
     let g = passes-test (badSample D l) 5 _ (f .1) in
     record { sides = sides W H (d .0); full = eqb-true (length l) (W * H) (not-false _ (e .0)); each = samples D l (g .0) }
 
--- ---- its plane undone
-module _ (k J D W H : ℕ) (l : List ℕ) (p : Pictured D W H l) where
-  plane-same : AgreeOn W H (maskOf (theKernel k) J W H (λ y x. true)) (coefficientsOf W (planeFor k J W H l)) (transformed (theKernel k) J W H (samplesOf W l))
-  plane-same y x a b t =
-      cell (pos 0) W (planeFor k J W H l) y x b ∙ listed-cell (W * H) (coefficient k J W H l) (pos 0) (y * W + x) (place-in W H y x a b) ∙ (rw (digits-div y b, digits-mod y b))
-
-  undone-back : (rs : List ℕ) (i : ℕ) → i < W * H → undoneOf (shotFor k J D W H rs (planeFor k J W H l)) (planeFor k J W H l) i ≡ pos (getD l i 0)
-  undone-back rs i h =
-      let K = theKernel k in
-      let some = p .sides .width .0 in
-      undone-agrees K J W H (λ y x. true) (coefficientsOf W (planeFor k J W H l)) (transformed K J W H (samplesOf W l)) plane-same
-      (i / W) (i % W) (row-in W H i some h) (mod-lt i some) refl
-      ∙ ap (λ (R : Picture ℤ). R (i / W) (i % W)) (undo-transform K J W H (samplesOf W l)) ∙ ap pos (sym (cell-of 0 W l H i (omega (arith, mul-comm W H))))
+-- ---- its own transform, with no level
+own-full : (k W H : ℕ) (l : List ℕ) (i : ℕ) → i < W * H → ownNumber k 0 W H l i ≡ pos (getD l i 0)
+unfolding side walk
+own-full k W H l i h = ap pos (sym (cell-of 0 W l H i (omega (arith, mul-comm W H))))
 
 module _ (k J D W H : ℕ) (rs samples : List ℕ) (p m n : ℕ) (ok : accepted (transformTests k J D W H samples p) ≡ true)
     (written : accepted (writeTests (shotFor k J D W H rs (planeFor k J W H samples)) (planeFor k J W H samples) m n) ≡ true) where
@@ -91,13 +79,22 @@ module _ (k J D W H : ℕ) (rs samples : List ℕ) (p m n : ℕ) (ok : accepted 
   parts : Parts x s plane
   parts = stream-parts w
 
-  -- the whole stream
+  q : Pictured D W H samples
+  q = pictured k J D W H samples p ok
+
+  -- ---- the whole stream
+  pub level-captured : (r : ℕ) → r ≤ J → (i : ℕ) → i < levelArea r s → levelNumberAt r x i ≡ ownNumber k r W H samples i
+  level-captured r few i h =
+      ap (λ (t : Shot). numberOf r t (reading.planeOf x) i) (parts .shot) ∙ ap (λ (l : List ℤ). numberOf r s l i) (plane-read w parts)
+      ∙ number-own k J r W H samples (q .sides .width .0) few i h
+
+  pub level-captured-shown : (r : ℕ) → r ≤ J → (i : ℕ) → i < levelArea r s → levelSampleAt r x i ≡ inRange D (ownNumber k r W H samples i)
+  level-captured-shown r few i h = ap₂ inRange (ap (λ (t : Shot). t .depth) (parts .shot)) (level-captured r few i h)
+
   pub captured : (i : ℕ) → i < W * H → shownAt x i ≡ getD samples i 0
   captured i h =
-      let q = pictured k J D W H samples p ok in
-      ap₂ inRange (ap (λ (t : Shot). t .depth) (parts .shot))
-      (ap (λ (t : Shot). undoneOf t (reading.planeOf x) i) (parts .shot) ∙ ap (λ (l : List ℤ). undoneOf s l i) (plane-read w parts) ∙ undone-back k J D W H samples q rs i h)
-      ∙ in-range D (getD samples i 0) (q .each i (omega (arith, q .full)))
+      ap (inRange (shotOf x .depth)) (sym (number-at x i)) ∙ level-captured-shown 0 (omega arith) i (rw (area-full s) h)
+      ∙ ap (inRange D) (own-full k W H samples i h) ∙ in-range D (getD samples i 0) (q .each i (omega (arith, q .full)))
 
   -- a cut of it
   cuttable : (c : ℕ) → regionMark s plane ≤ c → c ≤ totalLength s plane → Cuttable x (area s) (area s) c
@@ -110,6 +107,16 @@ module _ (k J D W H : ℕ) (rs samples : List ℕ) (p m n : ℕ) (ok : accepted 
         low = omega arith;
         high = omega (arith, stream-length s plane);
       }
+
+  module _ (c : ℕ) (low : regionMark s plane ≤ c) (high : c ≤ totalLength s plane) (r : ℕ) (few : r ≤ J) (i : ℕ) (h : i < levelArea r s) (t : inLevelAt r s i ≡ true) where
+    here : (r ≤ shotOf x .levels) × (i < levelArea r (shotOf x)) × (inLevelAt r (shotOf x) i ≡ true)
+    here = subst (λ (u : Shot). (r ≤ u .levels) × (i < levelArea r u) × (inLevelAt r u i ≡ true)) (sym (parts .shot)) (few, h, t)
+
+    pub level-captured-cut : levelNumberAt r (cutTo x c) i ≡ ownNumber k r W H samples i
+    level-captured-cut = level-cut x (area s) (area s) c (stream-bytes s plane) (cuttable c low high) r (here .0) i (here .1) (here .2) ∙ level-captured r few i h
+
+    pub level-captured-cut-shown : levelSampleAt r (cutTo x c) i ≡ inRange D (ownNumber k r W H samples i)
+    level-captured-cut-shown = level-shown x (area s) (area s) c (stream-bytes s plane) (cuttable c low high) r (here .0) i (here .1) (here .2) ∙ level-captured-shown r few i h
 
   pub captured-cut : (c : ℕ) → regionMark s plane ≤ c → c ≤ totalLength s plane → (i : ℕ) → i < W * H → inRegionAt s i ≡ true → shownAt (cutTo x c) i ≡ getD samples i 0
   captured-cut c low high i h t =

@@ -29,10 +29,11 @@ use Rattle.codestream.proofs.Lengths.{shot-mask-length}
 use Rattle.codestream.proofs.Arrivals.{arrived-cut}
 use Rattle.codestream.proofs.Cuts.{Headed, headed, Cuttable, cut-taken, cut-passed}
 use Rattle.codestream.proofs.RoundTrip.{lastTests, testsBehind, answerFrom}
-use Rattle.exactness.specs.Shown.{undoneAt, inRegionAt}
+use Rattle.exactness.specs.Shown.{undoneAt, inRegionAt, levelArea, levelNumberAt, levelSampleAt, inLevelAt}
 use Rattle.exactness.specs.Demands.{Exact}
 use Rattle.exactness.proofs.Bodies.{Kept, kept}
-use Rattle.exactness.proofs.Regions.{undoneOf, region-same}
+use Rattle.exactness.proofs.Levels.{number-at, area-full, mask-full}
+use Rattle.exactness.proofs.Regions.{numberOf, level-same}
 
 -- ---- the reader's tests behind those of the header: they pass for another body that is well filled
 module _ (s : Shot) (b : List ℕ) (e n m : ℕ) (ok : accepted (testsBehind s b e n m) ≡ true) where
@@ -114,10 +115,18 @@ module _ (l : List ℕ) (n m c : ℕ) (bytes : Bytes l) (p : Cuttable l n m c) w
       let off = one-class (shotMask s) 1 0 i (λ e. omega arith) (eq-eqb (getD (shotMask s) i 2) 1 e) in
       ap (λ (q : List ℤ). getD q i (pos 0)) plane-cut ∙ listed-cell (area s) _ (pos 0) i h ∙ same .value i off ∙ sym (listed-cell (area s) (answerOf l .value) (pos 0) i h)
 
-  undone-cut : (i : ℕ) → i < area s → inRegionAt s i ≡ true → undoneAt (cutTo l c) i ≡ undoneAt l i
-  undone-cut i h t =
+  -- at each level
+  pub level-cut : (r : ℕ) → r ≤ s .levels → (i : ℕ) → i < levelArea r s → inLevelAt r s i ≡ true → levelNumberAt r (cutTo l c) i ≡ levelNumberAt r l i
+  level-cut r few i h t =
       let set = setting-passed (s .kernel) (s .levels) (s .depth) (s .width) (s .height) (setting-tests s (bodyOf l) (answerOf l .end) n m (parts .1)) in
-      ap (λ (t : Shot). undoneOf t (planeOf (cutTo l c)) i) (head .shot) ∙ region-same s set (planeOf (cutTo l c)) (planeOf l) marked-cut i h t
+      ap (λ (t : Shot). numberOf r t (planeOf (cutTo l c)) i) (head .shot) ∙ level-same s set (planeOf (cutTo l c)) (planeOf l) marked-cut r few i h t
+
+  pub level-shown : (r : ℕ) → r ≤ s .levels → (i : ℕ) → i < levelArea r s → inLevelAt r s i ≡ true → levelSampleAt r (cutTo l c) i ≡ levelSampleAt r l i
+  level-shown r few i h t = ap₂ inRange (ap (λ (t : Shot). t .depth) (head .shot)) (level-cut r few i h t)
+
+  -- level 0
+  undone-cut : (i : ℕ) → i < area s → inRegionAt s i ≡ true → undoneAt (cutTo l c) i ≡ undoneAt l i
+  undone-cut i h t = sym (number-at (cutTo l c) i) ∙ level-cut 0 (omega arith) i (rw (area-full s) h) (mask-full s i ∙ t) ∙ number-at l i
 
   -- what arrived of it
   pub arrived-is : arrivedOf (take c l) ≡ cutTo l c

@@ -1,15 +1,13 @@
--- Two planes of a shot that agree on its mask have the same undone numbers in its region.
+-- Two planes of a shot that agree on its mask have, at each level, the same numbers wherever that level's mask marks.
 --
---   undoneOf s p i == the undone number at place i of the plane p of the shot s
+--   numberOf r s p i == the number at place i of the picture at level r of the plane p of the shot s
 --
 -- Assumes nothing.
-use mathlib.Core.Path.{_≡_, sym, ap, _∙_}
+use mathlib.Core.Path.{_≡_, sym, _∙_}
 use mathlib.Core.Bool.{Bool, true}
 use mathlib.Core.List.{List}
 use Prim.Native.Nat.{ℕ, _+_, _*_, _/_, _%_, _<_, _≤_}
-use native.Mathlib.Nat.{mul-comm, mod-lt, div-lt-iff-lt-mul}
-use native.Mathlib.Omega.{arith}
-use lib.Arith.{digits-div, digits-mod, digits-lt}
+use lib.Arith.{digits-div, digits-mod}
 use lib.IntN.{ℤ, pos}
 use lib.ListN.{getD}
 use Rattle.kernel.specs.declared.Kernel.{Kernel}
@@ -18,33 +16,18 @@ use Rattle.line.specs.Mask.{byteOf}
 use Rattle.line.proofs.Lists.{listed-cell}
 use Rattle.grid.specs.Picture.{Picture, AgreeOn}
 use Rattle.grid.proofs.Passes.{cell}
-use Rattle.plane.specs.Plane.{undone, maskOf}
-use Rattle.plane.proofs.Levels.{level-agrees, region-level, undone-level}
-use Rattle.wavelet.specs.Wavelet.{coefficientsOf, undoneNumber}
+use Rattle.plane.specs.Plane.{maskOf}
+use Rattle.wavelet.specs.Wavelet.{coefficientsOf}
+use Rattle.level_picture.specs.Level.{levelNumber}
 use Rattle.header.specs.Fields.{Shot}
 use Rattle.shot.specs.Shots.{drawn, maskBytes, shotMask}
 use Rattle.codestream.specs.Stream.{area}
 use Rattle.codestream.proofs.Accepted.{Setting}
-use Rattle.exactness.specs.Shown.{inRegionAt}
+use Rattle.exactness.specs.Shown.{levelArea, inLevelAt}
+use Rattle.exactness.proofs.Levels.{place-in, numbers-agree}
 
-abbrev pub undoneOf : Shot → List ℤ → ℕ → ℤ
-undoneOf s p i = undoneNumber (s .kernel) (s .levels) (s .width) (s .height) p i
-
--- ---- places of a picture: the row of a place, and the place in a row
-module _ (W H : ℕ) where
-  pub row-in : (i : ℕ) → 1 ≤ W → i < W * H → i / W < H
-  row-in i some h = div-lt-iff-lt-mul some .1 (omega (arith, mul-comm W H))
-
-  pub place-in : (y x : ℕ) → y < H → x < W → y * W + x < W * H
-  place-in y x p q = omega (arith, digits-lt p q, mul-comm W H)
-
--- planes that agree where the mask of B marks: their undone numbers agree where B does
-pub undone-agrees : (k : Kernel) (J W H : ℕ) (B : Picture Bool) (P P′ : Picture ℤ) → AgreeOn W H (maskOf k J W H B) P P′
-    → AgreeOn W H B (undone k J W H P) (undone k J W H P′)
-undone-agrees k J W H B P P′ a y x p q t =
-    ap (λ (R : Picture ℤ). R y x) (sym (undone-level k J W H B P))
-    ∙ level-agrees k J W H B P P′ a 0 (omega arith) y x p q (ap (λ (R : Picture Bool). R y x) (region-level k J W H B P) ∙ t)
-    ∙ ap (λ (R : Picture ℤ). R y x) (undone-level k J W H B P′)
+abbrev pub numberOf : ℕ → Shot → List ℤ → ℕ → ℤ
+numberOf r s p i = levelNumber (s .kernel) (s .levels) r (s .width) (s .height) p i
 
 module _ (s : Shot) (set : Setting (s .kernel) (s .levels) (s .depth) (s .width) (s .height)) where
   abbrev k : Kernel
@@ -69,7 +52,5 @@ module _ (s : Shot) (set : Setting (s .kernel) (s .levels) (s .depth) (s .width)
     agree : AgreeOn W H (maskOf k (s .levels) W H B) (coefficientsOf W p) (coefficientsOf W p′)
     agree y x a b t = cell (pos 0) W p y x b ∙ same (y * W + x) (place-in W H y x a b) (mask-cell y x a b t) ∙ sym (cell (pos 0) W p′ y x b)
 
-    pub region-same : (i : ℕ) → i < area s → inRegionAt s i ≡ true → undoneOf s p i ≡ undoneOf s p′ i
-    region-same i h t = let J = s .levels in
-        undone-agrees k J W H B (coefficientsOf W p) (coefficientsOf W p′) agree
-        (i / W) (i % W) (row-in W H i (set .sides .width .0) h) (mod-lt i (set .sides .width .0)) t
+    pub level-same : (r : ℕ) → r ≤ s .levels → (i : ℕ) → i < levelArea r s → inLevelAt r s i ≡ true → numberOf r s p i ≡ numberOf r s p′ i
+    level-same r few i h t = numbers-agree (s .kernel) (s .levels) r W H B p p′ (set .sides .width .0) few agree i h t

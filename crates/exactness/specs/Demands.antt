@@ -35,22 +35,37 @@
 --     exact    so what it leaves from the region mark on is accepted and shows each region sample as the whole stream does
 --     captured and as captured, where the stream was written from the plane of an accepted picture
 --
--- Assumes nothing: these are definitions. `proofs/Demands.antt` proves Demand2, Demand3 and Arrived.
+--   SmallPicture == the picture at level r, for every r from 0 to J:
+--     full     r = 0 is accepted where undoing and showing are, and gives what they give
+--     lowest   r = J gives the lowest area as it is stored
+--     alike    two accepted planes of one size, kernel, level count and depth that agree on the mask show the area alike wherever level r's mask marks
+--     blocks   level r's mask marks each place whose block of 2^r by 2^r samples holds a sample of the region
+--     taken    a stream that the reader accepts is shown at level r in buffers as long as the area
+--     cuts     a stream of bytes that the reader accepts with its marked part whole, cut to whichever length from its region mark to its own, shows what
+--              level r's mask marks as it does uncut
+--     whole, captured
+--              where the stream was written from the plane of an accepted picture, it shows the picture's own transform with r levels, and each cut shows
+--              what level r's mask marks of it
+--
+-- Assumes nothing: these are definitions. `proofs/Demands.antt` proves Demand2, Demand3, Arrived and SmallPicture.
 use mathlib.Core.Path.{_≡_}
 use mathlib.Core.Logic.{_≢_}
-use mathlib.Core.Bool.{Bool, true, false}
+use mathlib.Core.Bool.{Bool, true, false, _&&_}
 use mathlib.Core.List.{List}
-use Prim.Native.Nat.{ℕ, _*_, _-_, _^_, _<_, _≤_}
+use Prim.Native.Nat.{ℕ, _+_, _*_, _-_, _/_, _%_, _^_, _<_, _≤_}
 use lib.IntN.{ℤ, pos, _+ℤ_}
 use lib.ListN.{length, getD, take}
 use Rattle.whole.specs.Within.{Within}
 use Rattle.kernel.specs.declared.Kernel.{Kernel}
 use Rattle.kernel.specs.declared.Kernel.the-variants.{S}
+use Rattle.kernel.specs.Kernels.{theKernel}
 use Rattle.grid.specs.Picture.{Picture, side, AgreeOn}
 use Rattle.plane.specs.Plane.{transformed, undone, maskOf, levelMask, levelPicture, changed, Altered}
 use Rattle.plane.specs.Counts.{places, differs}
 use Rattle.refusal.specs.Numbers.{first, accepted}
-use Rattle.wavelet.specs.Wavelet.{transformTests}
+use Rattle.wavelet.specs.Wavelet.{coefficientsOf, undoneNumber, transformTests, undoTests}
+use Rattle.samples.specs.Samples.{inRange, showTests}
+use Rattle.level_picture.specs.Level.{levelNumber, levelSample, levelTests}
 use Rattle.header.specs.Header.{frontLength, badHeader}
 use Rattle.header.specs.Fields.{shotOf}
 use Rattle.header.specs.Arrival.{cutTo, arrivedOf, arrivalNumbers}
@@ -59,7 +74,7 @@ use Rattle.codestream.specs.Stream.{area, regionMark, totalLength, stream}
 use Rattle.codestream.specs.Writing.{shotFor, writeTests}
 use Rattle.codestream.specs.Reading.{answerOf, planeOf, readTests, readNumbers, ReadBack}
 use Rattle.codestream.specs.Cutting.{cutTests, Bytes}
-use Rattle.exactness.specs.Shown.{undoneAt, shownAt, inRegionAt, planeFor}
+use Rattle.exactness.specs.Shown.{undoneAt, shownAt, inRegionAt, planeFor, levelArea, levelNumberAt, levelSampleAt, ownNumber, inLevelMask, inLevelAt, streamTests}
 
 pub record Demand2 : Type 0 where
   pub picture-back : (k : Kernel) (J W H : ℕ) (P : Picture ℤ) → undone k J W H (transformed k J W H P) ≡ P
@@ -102,3 +117,30 @@ pub record Arrived : Type 0 where
   pub captured : (k J D W H : ℕ) (rs samples : List ℕ) (p m n : ℕ) → let plane = planeFor k J W H samples in let s = shotFor k J D W H rs plane in
       accepted (transformTests k J D W H samples p) ≡ true → accepted (writeTests s plane m n) ≡ true
       → (c : ℕ) → regionMark s plane ≤ c → c ≤ totalLength s plane → (i : ℕ) → i < W * H → inRegionAt s i ≡ true → shownAt (arrivedOf (take c (stream s plane))) i ≡ getD samples i 0
+
+pub record SmallPicture : Type 0 where
+  pub full : (k J D W H : ℕ) (plane : List ℤ) (n s : ℕ)
+      → (accepted (levelTests k J 0 D W H plane n s) ≡ (accepted (undoTests k J W H plane n) && accepted (showTests D W H n s)))
+      × ((i : ℕ) → (levelNumber k J 0 W H plane i ≡ undoneNumber k J W H plane i) × (levelSample k J 0 D W H plane i ≡ inRange D (undoneNumber k J W H plane i)))
+  pub lowest : (k J D W H : ℕ) (plane : List ℤ) (n s : ℕ) → accepted (levelTests k J J D W H plane n s) ≡ true
+      → (i : ℕ) → i < side J W * side J H → let stored = getD plane (i / side J W * W + i % side J W) (pos 0) in
+      (levelNumber k J J W H plane i ≡ stored) × (levelSample k J J D W H plane i ≡ inRange D stored)
+  pub alike : (k J r D W H : ℕ) (B : Picture Bool) (plane plane′ : List ℤ) (n s : ℕ)
+      → accepted (levelTests k J r D W H plane n s) ≡ true → accepted (levelTests k J r D W H plane′ n s) ≡ true
+      → AgreeOn W H (maskOf (theKernel k) J W H B) (coefficientsOf W plane) (coefficientsOf W plane′)
+      → (i : ℕ) → i < side r W * side r H → inLevelMask k r W H B i ≡ true
+      → (levelNumber k J r W H plane i ≡ levelNumber k J r W H plane′ i) × (levelSample k J r D W H plane i ≡ levelSample k J r D W H plane′ i)
+  pub blocks : (k : Kernel) (r W H : ℕ) (B : Picture Bool) (y x : ℕ) → y < H → x < W → B y x ≡ true → levelMask k r W H B (y / 2 ^ r) (x / 2 ^ r) ≡ true
+  pub taken : (l : List ℕ) (n m r : ℕ) → accepted (readTests l n m) ≡ true → r ≤ shotOf l .levels
+      → let a = levelArea r (shotOf l) in accepted (streamTests l r n m a a) ≡ true
+  pub cuts : (l : List ℕ) (n m c r : ℕ) → Bytes l → accepted (readTests l n m) ≡ true → answerOf l .whole ≡ true → answerOf l .regionMark ≤ c → c ≤ length l → r ≤ shotOf l .levels
+      → let a = levelArea r (shotOf l) in (accepted (streamTests (cutTo l c) r n m a a) ≡ true)
+      × ((i : ℕ) → i < a → inLevelAt r (shotOf l) i ≡ true → (levelNumberAt r (cutTo l c) i ≡ levelNumberAt r l i) × (levelSampleAt r (cutTo l c) i ≡ levelSampleAt r l i))
+  pub whole : (k J D W H : ℕ) (rs samples : List ℕ) (p m n : ℕ) → let plane = planeFor k J W H samples in let s = shotFor k J D W H rs plane in
+      accepted (transformTests k J D W H samples p) ≡ true → accepted (writeTests s plane m n) ≡ true
+      → (r : ℕ) → r ≤ J → (i : ℕ) → i < levelArea r s
+      → (levelNumberAt r (stream s plane) i ≡ ownNumber k r W H samples i) × (levelSampleAt r (stream s plane) i ≡ inRange D (ownNumber k r W H samples i))
+  pub captured : (k J D W H : ℕ) (rs samples : List ℕ) (p m n : ℕ) → let plane = planeFor k J W H samples in let s = shotFor k J D W H rs plane in
+      accepted (transformTests k J D W H samples p) ≡ true → accepted (writeTests s plane m n) ≡ true
+      → (c : ℕ) → regionMark s plane ≤ c → c ≤ totalLength s plane → (r : ℕ) → r ≤ J → (i : ℕ) → i < levelArea r s → inLevelAt r s i ≡ true
+      → (levelNumberAt r (cutTo (stream s plane) c) i ≡ ownNumber k r W H samples i) × (levelSampleAt r (cutTo (stream s plane) c) i ≡ inRange D (ownNumber k r W H samples i))

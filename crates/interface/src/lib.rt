@@ -8,13 +8,15 @@ ghost use Rattle.line.specs.Mask.{marked};
 ghost use Rattle.refusal.specs.Numbers.{first, accepted};
 ghost use Rattle.refusal.specs.Results.{Result};
 ghost use Rattle.header.specs.Header.{bodyTests};
-ghost use Rattle.header.specs.Fields.{Shot};
+ghost use Rattle.header.specs.Fields.{Shot, shotOf};
 ghost use Rattle.header.specs.Arrival.{arrivedOf, arrivalNumbers};
 ghost use Rattle.header.specs.Answers as arriving;
 ghost use Rattle.region.specs.Region.{regionByte, regionTests};
 ghost use Rattle.picture_mask.specs.Masks.{maskByte, maskTests};
 ghost use Rattle.samples.specs.Samples.{inRange, truncated, showTests, truncateTests};
+ghost use Rattle.level_picture.specs.Level.{levelNumber, levelSample, levelTests};
 ghost use Rattle.wavelet.specs.Wavelet.{coefficient, undoneNumber, transformTests, undoTests};
+ghost use Rattle.shot.specs.Shots.{shotMask};
 ghost use Rattle.shot.specs.Settings.{settingNumber};
 ghost use Rattle.codestream.specs.Writing.{shotFor, writeNumbers, maskAfter, streamAfter};
 ghost use Rattle.codestream.specs.Reading as reading;
@@ -23,6 +25,7 @@ ghost use Rattle.encoder.specs.Answers as writing;
 ghost use Rattle.header_reader.specs.Answers.{headerFor};
 ghost use Rattle.decoder.specs.Answers as found;
 ghost use Rattle.cutter.specs.Answers as cut;
+ghost use Rattle.exactness.specs.Shown.{levelNumberAt, levelSampleAt, streamTests};
 ghost use Rattle.interface.specs.Results.{GivenAt, Given, writeResults, bodyNumbers, shotResults, readResults, cutResults, bodyResults, arrivalResults, libraryVersion};
 use header_reader::Header;
 use shot::Setting;
@@ -110,6 +113,26 @@ pub extern "C" fn dhiirqobaal_show(
     ensures { λ r. ⌜ Result 0 (accepted (showTests depth w h (length (now (undone .entry))) (length (now (shown .entry))))) (λ i. inRange depth (getD (now (undone .entry)) i (pos 0))) (now (shown .entry)) (now (shown .exit)) ⌝ }
 {
     let answer = samples::show(depth, w, h, undone, shown);
+    refusal::answer_number(answer)
+}
+
+#[no_mangle]
+pub extern "C" fn dhiirqobaal_show_level(
+    kernel: usize,
+    levels: usize,
+    r: usize,
+    depth: usize,
+    w: usize,
+    h: usize,
+    plane: &[i32],
+    undone: &mut [i32],
+    shown: &mut [u16],
+) -> u64
+    ensures { λ n. ⌜ n ≡ first (levelTests kernel levels r depth w h (now (plane .entry)) (length (now (undone .entry))) (length (now (shown .entry)))) ⌝ }
+    ensures { λ n. ⌜ Result (pos 0) (accepted (levelTests kernel levels r depth w h (now (plane .entry)) (length (now (undone .entry))) (length (now (shown .entry))))) (levelNumber kernel levels r w h (now (plane .entry))) (now (undone .entry)) (now (undone .exit)) ⌝ }
+    ensures { λ n. ⌜ Result 0 (accepted (levelTests kernel levels r depth w h (now (plane .entry)) (length (now (undone .entry))) (length (now (shown .entry))))) (levelSample kernel levels r depth w h (now (plane .entry))) (now (shown .entry)) (now (shown .exit)) ⌝ }
+{
+    let answer = level_picture::show_level(kernel, levels, r, depth, w, h, plane, undone, shown);
     refusal::answer_number(answer)
 }
 
@@ -256,6 +279,19 @@ pub extern "C" fn dhiirqobaal_header(stream: &[u8], results: &mut [u64]) -> u64
     header_refusal(setting)
 }
 
+// The numbers of a reading into the caller's array, and its refusal.
+fn give_reading(answer: decoder::Reading, results: &mut [u64]) -> u64
+    ensures { λ n. ⌜ n ≡ found.numbersOf (answer .outcome) .refusal ⌝ }
+    ensures { λ n. ⌜ ((s : Shot) → answer .header ≡ headerFor s → Given (readResults (found.numbersOf (answer .outcome)) s) (now (results .entry)) (now (results .exit))) ⌝ }
+{
+    let outcome = answer.outcome;
+    let header = answer.header;
+    let body = read_values(outcome);
+    give(&body, 0, results);
+    give_header(header, 4, results);
+    read_refusal(outcome)
+}
+
 #[no_mangle]
 pub extern "C" fn dhiirqobaal_read(
     stream: &[u8],
@@ -269,12 +305,28 @@ pub extern "C" fn dhiirqobaal_read(
     ensures { λ r. ⌜ now (mask .exit) ≡ reading.maskAfter (now (stream .entry)) (length (now (plane .entry))) (now (mask .entry)) ⌝ }
 {
     let answer = decoder::read(stream, plane, mask);
-    let outcome = answer.outcome;
-    let header = answer.header;
-    let body = read_values(outcome);
-    give(&body, 0, results);
-    give_header(header, 4, results);
-    read_refusal(outcome)
+    give_reading(answer, results)
+}
+
+#[no_mangle]
+pub extern "C" fn dhiirqobaal_show_stream(
+    stream: &[u8],
+    r: usize,
+    plane: &mut [i32],
+    mask: &mut [u8],
+    undone: &mut [i32],
+    shown: &mut [u16],
+    results: &mut [u64],
+) -> u64
+    ensures { λ n. ⌜ n ≡ first (streamTests (now (stream .entry)) r (length (now (plane .entry))) (length (now (mask .entry))) (length (now (undone .entry))) (length (now (shown .entry)))) ⌝ }
+    ensures { λ n. ⌜ Given (readResults (reading.numbersUnder (first (streamTests (now (stream .entry)) r (length (now (plane .entry))) (length (now (mask .entry))) (length (now (undone .entry))) (length (now (shown .entry))))) (now (stream .entry))) (reading.shotUnder (first (streamTests (now (stream .entry)) r (length (now (plane .entry))) (length (now (mask .entry))) (length (now (undone .entry))) (length (now (shown .entry))))) (now (stream .entry)))) (now (results .entry)) (now (results .exit)) ⌝ }
+    ensures { λ n. ⌜ now (plane .exit) ≡ reading.heldUnder (pos 0) (first (streamTests (now (stream .entry)) r (length (now (plane .entry))) (length (now (mask .entry))) (length (now (undone .entry))) (length (now (shown .entry))))) (reading.planeOf (now (stream .entry))) (now (plane .entry)) ⌝ }
+    ensures { λ n. ⌜ now (mask .exit) ≡ reading.heldUnder 0 (first (streamTests (now (stream .entry)) r (length (now (plane .entry))) (length (now (mask .entry))) (length (now (undone .entry))) (length (now (shown .entry))))) (shotMask (shotOf (now (stream .entry)))) (now (mask .entry)) ⌝ }
+    ensures { λ n. ⌜ Result (pos 0) (accepted (streamTests (now (stream .entry)) r (length (now (plane .entry))) (length (now (mask .entry))) (length (now (undone .entry))) (length (now (shown .entry))))) (levelNumberAt r (now (stream .entry))) (now (undone .entry)) (now (undone .exit)) ⌝ }
+    ensures { λ n. ⌜ Result 0 (accepted (streamTests (now (stream .entry)) r (length (now (plane .entry))) (length (now (mask .entry))) (length (now (undone .entry))) (length (now (shown .entry))))) (levelSampleAt r (now (stream .entry))) (now (shown .entry)) (now (shown .exit)) ⌝ }
+{
+    let answer = showing::show_stream(stream, r, plane, mask, undone, shown);
+    give_reading(answer, results)
 }
 
 // The length that `cut` answers.
@@ -390,5 +442,5 @@ pub extern "C" fn dhiirqobaal_arrived(stream: &mut [u8], results: &mut [u64]) ->
 pub extern "C" fn dhiirqobaal_version() -> u64
     ensures { λ r. ⌜ r ≡ libraryVersion ⌝ }
 {
-    10000
+    10100
 }

@@ -16,7 +16,7 @@ use Rattle.line.specs.Mask.{mark, pairMark, reachMark, lowMark, highMark
 use Rattle.line.proofs.Cells.{by-lt, joined-low, joined-high, paired-each, paired-even, paired-odd}
 use Rattle.line.proofs.Border.{inside-in, last-one, after-one}
 use Rattle.line.proofs.Local.{first-pair, first-alone, predict-reach}
-use Rattle.line.proofs.Marks.{or-left, or-right, and-both, any-intro, near-intro, mark-there}
+use Rattle.line.proofs.Marks.{or-left, or-right, and-both, any-intro, near-intro, mark-there, even-low, odd-low}
 
 module _ (M K : ℕ) (B : Line Bool) (L D L′ D′ : Line ℤ) (le : K ≤ M) (fit : M ≤ K + 1) where
   -- ---- kernels 0 to 2: where P(n), the high n and every low within reach are marked; the unpaired sample is its own low
@@ -70,15 +70,9 @@ module _ (M K : ℕ) (B : Line Bool) (L D L′ D′ : Line ℤ) (le : K ≤ M) (
     even-again n h t = ap₂ _-ℤ_ (a n h t) (updates K n refl h t)
 
     even-first : (n : ℕ) → n < M → B (2 * n) ≡ true → undoneEvens FiveThree M K L D n ≡ undoneEvens FiveThree M K L′ D′ n
-    unfolding lowMark
-    even-first n h t = even-again n h (or-left _ (mark (M + K) B (2 * n) 1) (or-left _ (mark (M + K) B (2 * n + 1) 0) t))
+    even-first n h t = even-again n h (even-low M K B n FiveThree t)
 
-    -- where X(2n+1) is marked, so are low n and, if there is one, low n + 1
-    own-low : (n : ℕ) → n < K → B (2 * n + 1) ≡ true → lowMark FiveThree M K B n ≡ true
-    unfolding lowMark
-    own-low n h t =
-        or-left _ (mark (M + K) B (2 * n) 1) (or-right (B (2 * n)) _ (mark-there (M + K) B (2 * n + 1) 0 (2 * n + 1) (omega arith) (omega arith) t))
-
+    -- where X(2n+1) is marked, so are low n (`odd-low`) and, if there is one, low n + 1
     next-low : (n : ℕ) → n + 1 < M → B (2 * n + 1) ≡ true → lowMark FiveThree M K B (n + 1) ≡ true
     unfolding lowMark
     next-low n h t =
@@ -88,13 +82,13 @@ module _ (M K : ℕ) (B : Line Bool) (L D L′ D′ : Line ℤ) (le : K ≤ M) (
         → undoneEvens FiveThree M K L D (inside M (n + 1) 0) ≡ undoneEvens FiveThree M K L′ D′ (inside M (n + 1) 0)
     even-after n h t = rw (after-one M n (omega arith)) (by-lt (n + 1) M
         (λ lt. let e : min (n + 1) (M - 1) ≡ n + 1 = omega arith in rw e (even-again (n + 1) lt (next-low n lt t)))
-        (λ ge. let e : min (n + 1) (M - 1) ≡ n = omega arith in rw e (even-again n (omega arith) (own-low n h t))))
+        (λ ge. let e : min (n + 1) (M - 1) ≡ n = omega arith in rw e (even-again n (omega arith) (odd-low M K B n h le t FiveThree))))
 
     odd-second : (n : ℕ) → n < K → B (2 * n + 1) ≡ true → undoneOdds FiveThree M K L D n ≡ undoneOdds FiveThree M K L′ D′ n
     unfolding undoneOdds predict highMark
     odd-second n h t =
         ap₂ _+ℤ_ (b n h (or-left _ (mark M (lowMark FiveThree M K B) (n + 1) 0) (or-left _ (lowMark FiveThree M K B n) t)))
-        (ap₂ between (even-again n (omega arith) (own-low n h t)) (even-after n h t))
+        (ap₂ between (even-again n (omega arith) (odd-low M K B n h le t FiveThree)) (even-after n h t))
 
   -- ---- every kernel
   pub first-covered : (k : Kernel) → AgreeOn M (lowMark k M K B) L L′ → AgreeOn K (highMark k M K B) D D′ → (n : ℕ) → n < M → B (2 * n) ≡ true → undoneEvens k M K L D n ≡ undoneEvens k M K L′ D′ n

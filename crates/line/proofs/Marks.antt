@@ -1,13 +1,16 @@
--- The laws of marks: of "or", of a mark that may be missing, and of "any". Assumes nothing.
-use mathlib.Core.Path.{_≡_, refl}
+-- The laws of marks: of "or", of a mark that may be missing, of "any", and of the low that a marked sample marks. Assumes nothing.
+use mathlib.Core.Path.{_≡_, refl, sym, ap, _∙_}
 use mathlib.Core.Bool.{Bool, true, false, _&&_, _||_}
-use Prim.Native.Nat.{ℕ, zero, suc, _+_, _-_, _<_, _≤_}
+use Prim.Native.Nat.{ℕ, zero, suc, _+_, _*_, _-_, _/_, _<_, _≤_}
 use native.Mathlib.Omega.{arith}
 use lib.Dec.{leb}
 use borrow.Author.Tests.{le-leb, lt-ltb, leb-true}
-use Rattle.line.specs.Cells.{Line}
-use Rattle.line.specs.Mask.{anyBelow, near, mark}
-use Rattle.line.proofs.Cells.{by-lt}
+use Rattle.kernel.specs.declared.Kernel.{Kernel}
+use Rattle.kernel.specs.declared.Kernel.the-variants.{S, SPlusP, TT, FiveThree}
+use Rattle.kernel.specs.Kernels.{reach}
+use Rattle.line.specs.Cells.{Line, lowSide}
+use Rattle.line.specs.Mask.{anyBelow, near, mark, reachMark, lowMark, highMark, maskLine}
+use Rattle.line.proofs.Cells.{by-lt, joined-low}
 
 -- ---- or, and
 pub or-left : (a b : Bool) → a ≡ true → (a || b) ≡ true
@@ -55,3 +58,31 @@ unfolding mark
 mark-there N B u d i e h p =
     let q : u - d ≡ i = omega arith in
     rw (le-leb d u (omega arith), q, lt-ltb i N h, p)
+
+-- ---- the low of a marked sample
+module _ (M K : ℕ) (B : Line Bool) (n : ℕ) where
+  pub even-low : (k : Kernel) → B (2 * n) ≡ true → lowMark k M K B n ≡ true
+  unfolding lowMark
+  even-low S t = or-right (reachMark (reach S) K B n) (B (2 * n)) t
+  even-low SPlusP t = or-right (reachMark (reach SPlusP) K B n) (B (2 * n)) t
+  even-low TT t = or-right (reachMark (reach TT) K B n) (B (2 * n)) t
+  even-low FiveThree t = or-left _ (mark (M + K) B (2 * n) 1) (or-left _ (mark (M + K) B (2 * n + 1) 0) t)
+
+  module _ (h : n < K) (le : K ≤ M) (t : B (2 * n + 1) ≡ true) where
+    own-pair : (r : ℕ) → (reachMark r K B n || B (2 * n)) ≡ true
+    own-pair r = or-left _ (B (2 * n)) (any-intro K _ n h (and-both _ _ (near-intro r n n (omega arith) (omega arith)) (or-right (B (2 * n)) _ t)))
+
+    pub odd-low : (k : Kernel) → lowMark k M K B n ≡ true
+    unfolding lowMark
+    odd-low S = own-pair (reach S)
+    odd-low SPlusP = own-pair (reach SPlusP)
+    odd-low TT = own-pair (reach TT)
+    odd-low FiveThree = or-left _ (mark (M + K) B (2 * n) 1) (or-right (B (2 * n)) _ (mark-there (M + K) B (2 * n + 1) 0 (2 * n + 1) (omega arith) (omega arith) t))
+
+pub half-marked : (k : Kernel) (w : ℕ) (B : Line Bool) (x : ℕ) → x < w → B x ≡ true → maskLine k w B (x / 2) ≡ true
+unfolding maskLine
+half-marked k w B x h t =
+    joined-low (lowSide w) (lowMark k (lowSide w) (w / 2) B) (highMark k (lowSide w) (w / 2) B) (x / 2) (omega arith)
+    ∙ by-lt (2 * (x / 2)) x
+    (λ lt. let e : x ≡ 2 * (x / 2) + 1 = omega arith in odd-low (lowSide w) (w / 2) B (x / 2) (omega arith) (omega arith) (sym (ap B e) ∙ t) k)
+    (λ ge. let e : x ≡ 2 * (x / 2) = omega arith in even-low (lowSide w) (w / 2) B (x / 2) k (sym (ap B e) ∙ t))

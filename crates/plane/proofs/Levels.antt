@@ -1,8 +1,8 @@
 -- Demand 3, first part: two planes that agree on the mask have, at each level, pictures that differ nowhere where that level's mask marks.
 -- Assumes nothing.
-use mathlib.Core.Path.{_≡_, refl, ap, _∙_}
+use mathlib.Core.Path.{_≡_, refl, sym, ap, _∙_}
 use mathlib.Core.Bool.{Bool, true, false, not, _&&_}
-use Prim.Native.Nat.{ℕ, zero, suc, _+_, _-_, _<_, _≤_}
+use Prim.Native.Nat.{ℕ, zero, suc, _+_, _-_, _/_, _^_, _<_, _≤_}
 use native.Mathlib.Omega.{arith}
 use lib.IntN.{ℤ, pos, negsuc}
 use borrow.Author.Tests.{eq-eqb}
@@ -10,9 +10,10 @@ use Rattle.kernel.specs.declared.Kernel.{Kernel}
 use Rattle.line.specs.Transform.{back}
 use Rattle.line.specs.Mask.{maskLine}
 use Rattle.line.specs.Cells.{count}
+use Rattle.line.proofs.Marks.{half-marked}
 use Rattle.line.proofs.Covered.{covered}
 use Rattle.grid.specs.Picture.{Picture, walk, side, AgreeOn}
-use Rattle.grid.proofs.Levels.{walk-add, side-le}
+use Rattle.grid.proofs.Levels.{walk-add, back-none, side-le, walk-block}
 use Rattle.grid.proofs.Covered.{walk-covered}
 use Rattle.plane.specs.Plane.{undone, maskOf, levelMask, levelPicture}
 use Rattle.plane.specs.Counts.{same, places, differs}
@@ -52,6 +53,16 @@ module _ (k : Kernel) (J W H : ℕ) (B : Picture Bool) (P P′ : Picture ℤ) (a
   level-exact = places-none (side j W) (side j H) _ (λ y x p q.
       nowhere (levelMask k j W H B y x) _ _ (λ t. level-agrees y x (omega (arith, side-le j H)) (omega (arith, side-le j W)) t))
 
+-- a place of the area whose block holds a marked sample is marked
+pub block-marked : (k : Kernel) (j W H : ℕ) (B : Picture Bool) (y x : ℕ) → y < H → x < W → B y x ≡ true → levelMask k j W H B (y / 2 ^ j) (x / 2 ^ j) ≡ true
+block-marked k j W H B y x p q t = walk-block (maskLine k) (half-marked k) j W H B y x p q t
+
+-- planes that agree everywhere
+pub level-alike : (k : Kernel) (J W H : ℕ) (P P′ : Picture ℤ) → ((y x : ℕ) → y < H → x < W → P y x ≡ P′ y x) → (j y x : ℕ) → y < H → x < W
+    → levelPicture k J j W H P y x ≡ levelPicture k J j W H P′ y x
+level-alike k J W H P P′ a j y x p q =
+    walk-covered (maskLine k) (back k) (covered k) (J - j) W H (side j W) (side j H) (λ y x. true) P P′ (side-le j W) (side-le j H) (λ y x p q t. a y x p q) y x p q refl
+
 -- level 0: its mask is the region, and its picture the undone numbers
 module _ (k : Kernel) (J W H : ℕ) (B : Picture Bool) (P : Picture ℤ) where
   pub region-level : levelMask k 0 W H B ≡ B
@@ -61,3 +72,7 @@ module _ (k : Kernel) (J W H : ℕ) (B : Picture Bool) (P : Picture ℤ) where
   pub undone-level : levelPicture k J 0 W H P ≡ undone k J W H P
   unfolding side
   undone-level = let e : J - 0 ≡ J = omega arith in rw e
+
+-- the deepest level: nothing is undone
+pub stored-level : (k : Kernel) (J W H : ℕ) (P : Picture ℤ) → levelPicture k J J W H P ≡ P
+stored-level k J W H P = sym (back-none (back k) (J - J) (side J W) (side J H) P (omega arith))

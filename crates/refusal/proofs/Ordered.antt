@@ -53,6 +53,15 @@ module _ {A : Type 0} {o : A} {f : ℕ → A} {l : List A} (ts : List Test) wher
   pub done : {l′ : List A} → 0 ≡ first ts → Result o true f l l′ → (0 ≡ first ts) × Result o (accepted ts) f l l′
   done e r = (e, rw (← e) r)
 
+-- the same of an entry that fills two buffers
+module _ {A B : Type 0} {o : A} {p : B} {f : ℕ → A} {g : ℕ → B} {l : List A} {m : List B} (ts : List Test) where
+  pub refused-both : {n : ℕ} → suc n ≡ first ts → (suc n ≡ first ts) × (Result o (accepted ts) f l l × Result p (accepted ts) g m m)
+  refused-both e = (e, (refused ts e .1, refused ts e .1))
+
+  pub done-both : {l′ : List A} {m′ : List B} → 0 ≡ first ts → Result o true f l l′ → Result p true g m m′
+      → (0 ≡ first ts) × (Result o (accepted ts) f l l′ × Result p (accepted ts) g m m′)
+  done-both e r t = (e, (done ts e r .1, done ts e t .1))
+
 -- ---- a call that is accepted: each test fails
 pub passes-test : (b : Bool) (n : ℕ) (ts : List Test) → accepted (test b (suc n) ∷ ts) ≡ true → (b ≡ false) × (accepted ts ≡ true)
 unfolding first
@@ -97,3 +106,11 @@ module _ (us : List Test) where
   accepted-join [] e f = f
   accepted-join (test true n ∷ ts) e f = e
   accepted-join (test false n ∷ ts) e f = accepted-join ts e f
+
+-- ---- a test between tests
+pub first-between : (ts us : List Test) (b : Bool) (n : ℕ) → numbered ts ≡ true → first (ts ++ (test b n ∷ us)) ≡ choose (accepted ts && b) n (first (ts ++ us))
+unfolding first numbered
+first-between [] us b n p = refl
+first-between (test b zero ∷ ts) us c n p = absurd (false≢true p)
+first-between (test true (suc m) ∷ ts) us c n p = rw (eqb·suc-zero m)
+first-between (test false (suc m) ∷ ts) us c n p = first-between ts us c n p

@@ -3,6 +3,7 @@
 --   outside low high n       == n is not low to high
 --   badKernel n              == 1: kernel not 0 to 3
 --   badLevels J              == 2: J not 1 to 5
+--   badLevel r J             == 17: the level r is above the levels J
 --   badDepth D               == 3: D not 1 to 10
 --   badDrop q                == 3 of truncation: q above 22
 --   badSize W H              == 4: W or H not 1 to 4,096
@@ -31,6 +32,9 @@ badKernel n = leb 4 n
 
 abbrev pub badLevels : ℕ → Bool
 badLevels J = outside 1 5 J
+
+abbrev pub badLevel : ℕ → ℕ → Bool
+badLevel r J = ltb J r
 
 abbrev pub badDepth : ℕ → Bool
 badDepth D = outside 1 10 D

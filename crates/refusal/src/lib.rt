@@ -7,7 +7,7 @@ ghost use Rattle.refusal.specs.Numbers.{refusalNumber, answerNumber};
 ghost use Rattle.refusal.specs.Tests as tests;
 ghost use Rattle.refusal.specs.Parts.{partSize, partStart};
 
-// Refusals 1 to 16, in the order of their numbers (docs/FORMAT.md, "Refusals").
+// Refusals 1 to 17, in the order of their numbers (docs/FORMAT.md, "Refusals").
 pub enum Refusal {
     Kernel,
     Levels,
@@ -25,6 +25,7 @@ pub enum Refusal {
     Planes,
     Cut,
     Filling,
+    Level,
 }
 
 // What an entry answers that returns no number of its own.
@@ -54,6 +55,7 @@ pub fn refusal_number(refusal: Refusal) -> u64
         Refusal::Planes => 14,
         Refusal::Cut => 15,
         Refusal::Filling => 16,
+        Refusal::Level => 17,
     }
 }
 
@@ -71,6 +73,12 @@ pub fn bad_levels(levels: usize) -> bool
     ensures { λ r. ⌜ r ≡ tests.badLevels levels ⌝ }
 {
     (levels < 1) | (5 < levels)
+}
+
+pub fn bad_level(r: usize, levels: usize) -> bool
+    ensures { λ b. ⌜ b ≡ tests.badLevel r levels ⌝ }
+{
+    levels < r
 }
 
 pub fn bad_depth(depth: usize) -> bool

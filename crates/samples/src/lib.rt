@@ -38,7 +38,7 @@ pub fn show(depth: usize, w: usize, h: usize, undone: &[i32], shown: &mut [u16])
 }
 
 // Each undone number, brought into range.
-fn show_all(depth: usize, undone: &[i32], shown: &mut [u16])
+pub fn show_all(depth: usize, undone: &[i32], shown: &mut [u16])
     requires { ⌜ depth ≤ 10 ⌝ }
     requires { ⌜ length (now undone) ≡ length (now shown) ⌝ }
     ensures { λ _. ⌜ Result 0 true (λ i. inRange depth (getD (now (undone .entry)) i (pos 0))) (now (shown .entry)) (now (shown .exit)) ⌝ }

@@ -1,3 +1,3 @@
--- The proofs on showing streams.
-pub mod Rooms
+-- The laws of showing a stream.
+pub mod Fronts
 pub mod Shows

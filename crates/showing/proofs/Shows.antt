@@ -1,110 +1,122 @@
--- From what was read to what is shown.
---
---   Undone h plane .. == the plane was undone and shown with the numbers of the header h
---   Passed s n        == the tests of undoing and showing that the shot s has passed, with buffers of length n
---
--- Assumes nothing.
+-- From what was read to what is shown. Assumes nothing.
 use mathlib.Core.Path.{_≡_, refl, sym, ap, subst, _∙_}
-use mathlib.Core.Bool.{Bool, true, false}
+use mathlib.Core.Bool.{true, false}
 use mathlib.Core.List.{List}
-use Prim.Native.Nat.{ℕ, _*_, _≤_}
-use native.Mathlib.Omega.{arith}
+use Prim.Native.Nat.{ℕ, _-_, _^_, _≤_}
+use lib.Dec.{eqb}
 use lib.IntN.{ℤ, pos}
-use lib.ListN.{length, getD}
-use lib.Seq.{ext-getD}
-use borrow.Author.Tests.{eqb-true, not-false}
-use Rattle.line.specs.Cells.{choose, listed}
-use Rattle.line.proofs.Lists.{is-listed}
-use Rattle.refusal.specs.Numbers.{Test, first, accepted}
-use Rattle.refusal.specs.Tests.{badKernel, badLevels, badDepth, badSize, badLength, badMagnitude}
+use lib.ListN.{length}
+use Rattle.kernel.specs.declared.Kernel.{Kernel}
+use Rattle.plane.specs.Inner.{Below}
+use Rattle.refusal.specs.Numbers.{first}
+use Rattle.refusal.specs.Tests.{badMagnitude}
 use Rattle.refusal.specs.Results.{Result}
-use Rattle.refusal.proofs.Ordered.{none, next, passes-test, numbered, accepted-both}
-use Rattle.wavelet.specs.Wavelet.{undoneNumber, undoTests}
-use Rattle.samples.specs.Samples.{inRange, showTests}
-use Rattle.header.specs.Header.{bodyTests}
-use Rattle.header.specs.Fields.{Shot, shotOf}
-use Rattle.shot.specs.Shots.{settingTests, rectangleTests}
+use Rattle.refusal.specs.declared.Refusal.{Refusal}
+use Rattle.refusal.proofs.Named.{named}
+use Rattle.refusal.proofs.Ordered.{here, next}
+use Rattle.refusal.proofs.Passed.{magnitudes}
+use Rattle.wavelet.specs.Wavelet.{coefficientsOf}
+use Rattle.wavelet.proofs.Entries.{plane-below}
+use Rattle.samples.specs.Samples.{inRange}
+use Rattle.level_picture.specs.Level.{badArea}
+use Rattle.level_picture.specs.Inner.{levelAt, Lent}
+use Rattle.level_picture.proofs.Areas.{good-area}
+use Rattle.header.specs.Fields.{shotOf}
+use Rattle.shot.specs.Shots.{shotMask}
 use Rattle.codestream.specs.Stream.{area}
-use Rattle.codestream.specs.Reading.{planeOf, badPlanes, readTests, noShot, shotRead, planeAfter}
+use Rattle.codestream.specs.Reading.{planeOf, bufferTests, numbersUnder, shotUnder, heldUnder}
+use Rattle.codestream.specs.Reading as reading
 use Rattle.codestream.proofs.Planes.{plane-accepted}
-use Rattle.header_reader.specs.Answers.{headerFor}
 use Rattle.header_reader.specs.declared.Header.{Header}
-use Rattle.exactness.specs.Shown.{undoneAt, shownAt}
-use Rattle.showing.specs.Inner.{samplesAfter, Alike}
-use Rattle.showing.specs.Showing.{roomFor}
-use Rattle.showing.proofs.Rooms.{room-small}
+use Rattle.header_reader.specs.Answers.{headerFor}
+use Rattle.decoder.specs.Answers.{numbersOf}
+use Rattle.decoder.specs.Inner.{Taken, Answered}
+use Rattle.decoder.specs.declared.Body.{Body}
+use Rattle.decoder.specs.declared.Outcome.the-variants.{Done, Refused}
+use Rattle.decoder.specs.declared.Reading.{Reading}
+use Rattle.decoder.proofs.Tests.{passed, passed-first}
+use Rattle.decoder.proofs.Answered.{sides}
+use Rattle.exactness.specs.Shown.{levelNumberAt, levelSampleAt, areaTests}
+use Rattle.showing.specs.Inner.{LevelShown}
 
-pub record Undone (h : Header) (plane undone undone′ : List ℤ) (shown shown′ : List ℕ) : Type 0 where
-  pub undo : Result (pos 0) (accepted (undoTests (h .kernel) (h .levels) (h .width) (h .height) plane (length undone))) (undoneNumber (h .kernel) (h .levels) (h .width) (h .height) plane) undone undone′
-  pub show : Result 0 (accepted (showTests (h .depth) (h .width) (h .height) (length undone′) (length shown))) (λ i. inRange (h .depth) (getD undone′ i (pos 0))) shown shown′
+-- ---- a header that was taken
+module _ {l : List ℕ} {k : Kernel} {h : Header} (t : Taken l k h) where
+  pub few : h .levels ≤ 5
+  few = rw (t .header) (passed l (t .tests) .setting .levels .1)
 
--- ---- a stream that was read has passed the tests of undoing and showing
-record Passed (s : Shot) (n : ℕ) : Type 0 where
-  pub kernel : badKernel (s .kernel) ≡ false
-  pub levels : badLevels (s .levels) ≡ false
-  pub depth : badDepth (s .depth) ≡ false
-  pub size : badSize (s .width) (s .height) ≡ false
-  pub full : badLength (s .width) (s .height) n ≡ false
+  depth-most : h .depth ≤ 10
+  depth-most = rw (t .header) (passed l (t .tests) .setting .depth .1)
 
-passed : (l : List ℕ) (n : ℕ) → accepted (readTests l n n) ≡ true → Passed (shotOf l) n
-unfolding numbered
-passed l n ok =
-    let s = shotOf l in
-    let a = accepted-both _ (bodyTests l) refl ok in
-    let b = accepted-both _ (settingTests (s .kernel) (s .levels) (s .depth) (s .width) (s .height)) refl (a .1) in
-    let c = accepted-both _ (rectangleTests (s .width) (s .height) (s .rectangles)) refl (b .1) in
-    let k = passes-test (badKernel (s .kernel)) 0 _ (b .0) in
-    let j = passes-test (badLevels (s .levels)) 1 _ (k .1) in
-    let d = passes-test (badDepth (s .depth)) 2 _ (j .1) in
-    let z = passes-test (badSize (s .width) (s .height)) 3 _ (d .1) .0 in
-    record {
-      kernel = k .0;
-      levels = j .0;
-      depth = d .0;
-      size = z;
-      full = passes-test (badLength (s .width) (s .height) n) 4 _ (passes-test (badPlanes (s .planes)) 13 _ (c .1) .1) .0;
+  -- the area's test, by the header's numbers
+  module _ (r n m u s : ℕ) where
+    area-is : badArea r (h .width) (h .height) u s ≡ badArea r (shotOf l .width) (shotOf l .height) u s
+    area-is = ap (λ (h : Header). badArea r (h .width) (h .height) u s) (t .header)
+
+    pub other-area : badArea r (h .width) (h .height) u s ≡ true → 5 ≡ first (areaTests l r n m u s)
+    other-area e = here _ 5 _ (sym area-is ∙ e)
+
+    pub good-first : badArea r (h .width) (h .height) u s ≡ false → first (bufferTests l n m) ≡ first (areaTests l r n m u s)
+    good-first e = next _ _ 5 _ (sym area-is ∙ e) refl
+
+  -- a body that was read: its plane can be undone
+  module _ (n m r u s : ℕ) (full : first (bufferTests l n m) ≡ 0) (level : r ≤ h .levels) (good : badArea r (h .width) (h .height) u s ≡ false) {plane : List ℤ} (is : plane ≡ planeOf l) where
+    small : (badMagnitude (planeOf l) ≡ false) × (length (planeOf l) ≡ area (shotOf l))
+    small = plane-accepted l n m (ap (λ (f : ℕ). eqb f 0) (sym (passed-first l n m (t .tests)) ∙ full))
+
+    pub lent : Lent (h .levels) r (h .depth) (h .width) (h .height) (length plane) u s
+    lent = let a = good-area r (h .width) (h .height) u s good in let z = sides l t in record {
+      few = few;
+      level = level;
+      depth = depth-most;
+      some-w = z .width .0;
+      some-h = z .height .0;
+      w-most = z .width .1;
+      h-most = z .height .1;
+      plane = ap length is ∙ small .1 ∙ rw (t .header) refl;
+      undone = a .0;
+      shown = a .1;
     }
 
-all-pass : (ts : List Test) → 0 ≡ first ts → accepted ts ≡ true
-all-pass ts e = rw (← e)
+    pub below : Below (2 ^ 22 - 1) (h .width) (h .height) (coefficientsOf (h .width) plane)
+    below = rw (is, t .header) (plane-below (shotOf l .width) (shotOf l .height) (planeOf l) (small .1) (magnitudes (planeOf l) (small .0)))
 
-undo-passes : {s : Shot} {n u : ℕ} (plane : List ℤ) → Passed s n → badMagnitude plane ≡ false → length plane ≡ n → u ≡ n
-    → accepted (undoTests (s .kernel) (s .levels) (s .width) (s .height) plane u) ≡ true
-undo-passes {s} {n} {u} plane p small e f = rw (e, f) (all-pass _
-    (next _ _ _ _ (p .kernel) (next _ _ _ _ (p .levels) (next _ _ _ _ (p .size) (next _ _ _ _ (p .full) (next _ _ _ _ (p .full) (next _ _ _ _ small none)))))))
+  module _ (r : ℕ) {plane : List ℤ} (is : plane ≡ planeOf l) where
+    pub numbers-at : {u u′ : List ℤ} → Result (pos 0) true (levelAt k (h .levels) r (h .width) (h .height) plane) u u′ → Result (pos 0) true (levelNumberAt r l) u u′
+    numbers-at p = rw (is, t .kernel, t .header) at p
 
-show-passes : {s : Shot} {n u m : ℕ} → Passed s n → u ≡ n → m ≡ n → accepted (showTests (s .depth) (s .width) (s .height) u m) ≡ true
-show-passes p e f = rw (e, f) (all-pass _ (next _ _ _ _ (p .depth) (next _ _ _ _ (p .size) (next _ _ _ _ (p .full) (next _ _ _ _ (p .full) none)))))
+    pub samples-at : {s s′ : List ℕ} → Result 0 true (λ i. inRange (h .depth) (levelAt k (h .levels) r (h .width) (h .height) plane i)) s s′ → Result 0 true (levelSampleAt r l) s s′
+    samples-at p = rw (is, t .kernel, t .header) at p
 
--- ---- the shown samples
-module _ (l : List ℕ) {undone undone′ : List ℤ} {shown shown′ : List ℕ} (n : ℕ) (u : length undone ≡ n) (m : length shown ≡ n) where
-  shown-accepted : accepted (readTests l n n) ≡ true → Undone (headerFor (shotOf l)) (planeOf l) undone undone′ shown shown′ → shown′ ≡ listed n (shownAt l)
-  shown-accepted ok r =
-      let p = passed l n ok in
-      let g = plane-accepted l n n ok in
-      let full : length (planeOf l) ≡ n = g .1 ∙ sym (eqb-true n (area (shotOf l)) (not-false _ (p .full))) in
-      let a = subst (λ (b : Bool). Result (pos 0) b (undoneAt l) undone undone′) (undo-passes (planeOf l) p (g .0) full u) (r .undo) in
-      let b = subst (λ (b : Bool). Result 0 b (λ i. inRange (shotOf l .depth) (getD undone′ i (pos 0))) shown shown′) (show-passes p (a .size ∙ u) m) (r .show) in
-      is-listed n (shownAt l) 0 shown′ (b .size ∙ m) (λ i h. b .cell i (rw m h) ∙ ap (inRange (shotOf l .depth)) (a .cell i (rw u h)))
+-- ---- the answer of the reader tells which test held
+module _ {f : ℕ} {l : List ℕ} {plane plane′ : List ℤ} {mask mask′ : List ℕ} {a : Reading} (x : Answered f l plane plane′ mask mask′ a) where
+  pub done-first : (b : Body) → a .outcome ≡ Done b → f ≡ 0
+  done-first b e = sym (ap (λ (v : reading.Numbers). v .refusal) (x .numbers)) ∙ ap (λ o. numbersOf o .refusal) e
 
-  shown-refused : {plane : List ℤ} → Undone (headerFor noShot) plane undone undone′ shown shown′ → shown′ ≡ shown
-  unfolding first
-  shown-refused r = ext-getD 0 shown′ shown (r .show .size) (λ i h. r .show .cell i (omega (arith, r .show .size)))
+  pub refused-first : (r : Refusal) → a .outcome ≡ Refused r → eqb f 0 ≡ false
+  refused-first r e = ap (λ (n : ℕ). eqb n 0) (sym (ap (λ (v : reading.Numbers). v .refusal) (x .numbers)) ∙ ap (λ o. numbersOf o .refusal) e) ∙ named r
 
-  -- under a refusal the header is that of no shot
-  either : (ok : Bool) (plane : List ℤ) → accepted (readTests l n n) ≡ ok → Undone (headerFor (choose ok (shotOf l) noShot)) (choose ok (planeOf l) plane) undone undone′ shown shown′
-      → shown′ ≡ choose ok (listed n (shownAt l)) shown
-  either true plane e r = shown-accepted e r
-  either false plane e r = shown-refused r
+  pub plane-is : f ≡ 0 → plane′ ≡ planeOf l
+  plane-is e = x .plane-held ∙ rw e
 
-module _ (l : List ℕ) (plane : List ℤ) (mask : List ℕ) {plane′ undone undone′ : List ℤ} {shown shown′ : List ℕ} {h : Header} (k : Alike (length plane) (length mask) (length undone) (length shown)) where
-  pub shown-after : h ≡ headerFor (shotRead l (length plane) (length mask)) → plane′ ≡ planeAfter l (length mask) plane → Undone h plane′ undone undone′ shown shown′ → shown′ ≡ samplesAfter l shown
-  shown-after e f r = rw (k .shown) (either l (length plane) (k .undone) (k .shown) (accepted (readTests l (length plane) (length plane))) _ refl (rw (e, f, k .mask) at r))
+  -- ---- the whole answer
+  module _ {r : ℕ} {undone : List ℤ} {shown : List ℕ} where
+    pub shown-refused : eqb f 0 ≡ false → LevelShown f r l plane plane′ mask mask′ undone undone shown shown a
+    shown-refused e = record { answered = x; numbers = record { size = refl; cell = λ i h. rw e }; samples = record { size = refl; cell = λ i h. rw e } }
 
--- ---- the rows of the picture that was read are within the lent buffer
-pub rows-fit : (l : List ℕ) (n : ℕ) {h : Header} → h ≡ headerFor (shotRead l (roomFor l n) (roomFor l n)) → h .width * h .height ≤ n
-rows-fit l n {h} e = rw e (by-answer (accepted (readTests l (roomFor l n) (roomFor l n))) refl)
-  where
-    by-answer : (ok : Bool) → accepted (readTests l (roomFor l n) (roomFor l n)) ≡ ok → let s = choose ok (shotOf l) noShot in s .width * s .height ≤ n
-    by-answer true ok = omega (arith, room-small l n .1, eqb-true (roomFor l n) (area (shotOf l)) (not-false _ (passed l (roomFor l n) ok .full)))
-    by-answer false ok = omega arith
+    pub shown-done : f ≡ 0 → {undone′ : List ℤ} {shown′ : List ℕ} → Result (pos 0) true (levelNumberAt r l) undone undone′ → Result 0 true (levelSampleAt r l) shown shown′
+        → LevelShown f r l plane plane′ mask mask′ undone undone′ shown shown′ a
+    shown-done e p q = record { answered = x; numbers = rw e p; samples = rw e q }
+
+-- another test of the same number
+pub shown-as : {f g r : ℕ} {l : List ℕ} {plane plane′ : List ℤ} {mask mask′ : List ℕ} {undone undone′ : List ℤ} {shown shown′ : List ℕ} {a : Reading} → f ≡ g
+    → LevelShown f r l plane plane′ mask mask′ undone undone′ shown shown′ a → LevelShown g r l plane plane′ mask mask′ undone undone′ shown shown′ a
+shown-as {f} {g} {r} {l} {plane} {plane′} {mask} {mask′} {undone} {undone′} {shown} {shown′} {a} e x =
+    subst (λ (f : ℕ). LevelShown f r l plane plane′ mask mask′ undone undone′ shown shown′ a) e x
+
+-- the call's contract
+pub entry : (f r : ℕ) (l : List ℕ) {plane plane′ : List ℤ} {mask mask′ : List ℕ} {undone undone′ : List ℤ} {shown shown′ : List ℕ} {a : Reading}
+    → LevelShown f r l plane plane′ mask mask′ undone undone′ shown shown′ a
+    → (numbersOf (a .outcome) ≡ numbersUnder f l) × ((a .header ≡ headerFor (shotUnder f l)) × ((plane′ ≡ heldUnder (pos 0) f (planeOf l) plane)
+    × ((mask′ ≡ heldUnder 0 f (shotMask (shotOf l)) mask)
+    × (Result (pos 0) (eqb f 0) (levelNumberAt r l) undone undone′ × Result 0 (eqb f 0) (levelSampleAt r l) shown shown′))))
+entry f r l x = let y = x .answered in (y .numbers, (y .header, (y .plane-held, (y .mask-held, (x .numbers, x .samples)))))

@@ -1,22 +1,19 @@
 -- The parts of showing: what only inner contracts and proofs cite.
 --
---   samplesAfter l held == what a buffer of that length then holds: the shown samples, under a refusal what it held
---   Alike n m u s       == the lengths of plane, mask, undone and shown buffer are equal
+--   LevelShown f r l .. == the answer of showing the stream l at level r, and what the buffers then hold, where f is the number of the first test that
+--                          holds, 0 if none does
 --
 -- Assumes nothing: these are definitions.
-use mathlib.Core.Path.{_≡_}
 use mathlib.Core.List.{List}
 use Prim.Native.Nat.{ℕ}
-use lib.ListN.{length}
-use Rattle.line.specs.Cells.{choose, listed}
-use Rattle.refusal.specs.Numbers.{accepted}
-use Rattle.codestream.specs.Reading.{readTests}
-use Rattle.exactness.specs.Shown.{shownAt}
+use lib.Dec.{eqb}
+use lib.IntN.{ℤ, pos}
+use Rattle.refusal.specs.Results.{Result}
+use Rattle.decoder.specs.Inner.{Answered}
+use Rattle.decoder.specs.declared.Reading.{Reading}
+use Rattle.exactness.specs.Shown.{levelNumberAt, levelSampleAt}
 
-abbrev pub samplesAfter : List ℕ → List ℕ → List ℕ
-samplesAfter l held = choose (accepted (readTests l (length held) (length held))) (listed (length held) (shownAt l)) held
-
-pub record Alike (n m u s : ℕ) : Type 0 where
-  pub mask : m ≡ n
-  pub undone : u ≡ n
-  pub shown : s ≡ n
+pub record LevelShown (f r : ℕ) (l : List ℕ) (plane plane′ : List ℤ) (mask mask′ : List ℕ) (undone undone′ : List ℤ) (shown shown′ : List ℕ) (a : Reading) : Type 0 where
+  pub answered : Answered f l plane plane′ mask mask′ a
+  pub numbers : Result (pos 0) (eqb f 0) (levelNumberAt r l) undone undone′
+  pub samples : Result 0 (eqb f 0) (levelSampleAt r l) shown shown′

@@ -1,3 +1,2 @@
 -- What the contracts on showing streams cite.
-pub mod Showing
 pub mod Inner

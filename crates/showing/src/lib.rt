@@ -1,80 +1,116 @@
-// Shows codestreams.
+// Shows codestreams, at each of their levels.
 ghost use mathlib.Core.Path.{_≡_};
+ghost use mathlib.Core.Bool.{_&&_};
+ghost use Prim.Native.Nat.{_≤_};
+ghost use lib.IntN.{pos};
 ghost use lib.ListN.{length};
-ghost use Rattle.codestream.specs.Reading.{readNumbers, shotRead};
+ghost use Rattle.refusal.specs.Numbers.{first, accepted};
+ghost use Rattle.refusal.specs.Tests.{badLevel};
+ghost use Rattle.refusal.specs.Results.{Result};
+ghost use Rattle.header.specs.Fields.{shotOf};
+ghost use Rattle.shot.specs.Shots.{shotMask};
+ghost use Rattle.codestream.specs.Reading.{planeOf, numbersUnder, shotUnder, heldUnder};
 ghost use Rattle.header_reader.specs.Answers.{headerFor};
 ghost use Rattle.decoder.specs.Answers.{numbersOf};
-ghost use Rattle.showing.specs.Inner.{samplesAfter, Alike};
-ghost use Rattle.showing.specs.Showing.{roomFor, shownAfter};
+ghost use Rattle.decoder.specs.Inner.{Taken};
+ghost use Rattle.exactness.specs.Shown.{levelNumberAt, levelSampleAt, frontTests, areaTests, streamTests};
+ghost use Rattle.showing.specs.Inner.{LevelShown};
+use decoder::Outcome;
 use decoder::Reading;
+use header_reader::Header;
+use kernel::Kernel;
+use refusal::Refusal;
+use shot::Setting;
 
-// Shows a stream of a picture of at most 64 by 64 samples: reads it, undoes it and brings it into range, each with what its header says.
-// Refusals as those of `decoder::read`, in its order; 5 is a picture that is larger than 64 by 64 or than the lent buffer.
-// Under a refusal the lent buffer holds what it held, and what lies behind the samples always does.
-pub fn show_stream(stream: &[u8], shown: &mut [u16]) -> Reading
-    ensures { λ r. ⌜ numbersOf (r .outcome) ≡ readNumbers (now (stream .entry)) (roomFor (now (stream .entry)) (length (now (shown .entry)))) (roomFor (now (stream .entry)) (length (now (shown .entry)))) ⌝ }
-    ensures { λ r. ⌜ r .header ≡ headerFor (shotRead (now (stream .entry)) (roomFor (now (stream .entry)) (length (now (shown .entry)))) (roomFor (now (stream .entry)) (length (now (shown .entry))))) ⌝ }
-    ensures { λ r. ⌜ now (shown .exit) ≡ shownAfter (now (stream .entry)) (now (shown .entry)) ⌝ }
-{
-    let n = room(stream, shown.len());
-    let mut plane = [0i32; 4096];
-    let mut mask = [0u8; 4096];
-    let mut undone = [0i32; 4096];
-    show_into(
-        stream,
-        &mut plane[..n],
-        &mut mask[..n],
-        &mut undone[..n],
-        &mut shown[..n],
-    )
-}
-
-// The number of samples, where the working memory and the lent buffer have room for them, else 0:
-// a larger picture then has buffers of another length, and the reader refuses it in 5's place in the order.
-fn room(stream: &[u8], lent: usize) -> usize
-    ensures { λ r. ⌜ r ≡ roomFor (now (stream .entry)) lent ⌝ }
-{
-    if header::bad_header(stream) {
-        return 0;
-    }
-    let w = header::two_bytes(stream, 8);
-    let h = header::two_bytes(stream, 10);
-    if 64 < w {
-        return 0;
-    }
-    if 64 < h {
-        return 0;
-    }
-    if lent < w * h {
-        return 0;
-    }
-    w * h
-}
-
-// Reads, undoes and shows over lent buffers. Where the reader refuses, every number of the header is 0,
-// which undoing and showing refuse in turn: no test of its own is needed.
-fn show_into(
+// Shows a stream at level r: reads it, undoes the levels behind r and brings the area that is left into range, each with what its header says.
+// Refusals, in order: 12, 13, 1, 2, 17, 3, 4, 7, 8, 14, 5, 16. Under 16 plane and mask are zeroed; but for that, under a refusal, every lent
+// buffer holds what it held.
+pub fn show_stream(
     stream: &[u8],
+    r: usize,
     plane: &mut [i32],
     mask: &mut [u8],
     undone: &mut [i32],
     shown: &mut [u16],
 ) -> Reading
-    requires { ⌜ Alike (length (now plane)) (length (now mask)) (length (now undone)) (length (now shown)) ⌝ }
-    ensures { λ r. ⌜ numbersOf (r .outcome) ≡ readNumbers (now (stream .entry)) (length (now (plane .entry))) (length (now (plane .entry))) ⌝ }
-    ensures { λ r. ⌜ r .header ≡ headerFor (shotRead (now (stream .entry)) (length (now (plane .entry))) (length (now (plane .entry)))) ⌝ }
-    ensures { λ r. ⌜ now (shown .exit) ≡ samplesAfter (now (stream .entry)) (now (shown .entry)) ⌝ }
+    ensures { λ a. ⌜ numbersOf (a .outcome) ≡ numbersUnder (first (streamTests (now (stream .entry)) r (length (now (plane .entry))) (length (now (mask .entry))) (length (now (undone .entry))) (length (now (shown .entry))))) (now (stream .entry)) ⌝ }
+    ensures { λ a. ⌜ a .header ≡ headerFor (shotUnder (first (streamTests (now (stream .entry)) r (length (now (plane .entry))) (length (now (mask .entry))) (length (now (undone .entry))) (length (now (shown .entry))))) (now (stream .entry))) ⌝ }
+    ensures { λ a. ⌜ now (plane .exit) ≡ heldUnder (pos 0) (first (streamTests (now (stream .entry)) r (length (now (plane .entry))) (length (now (mask .entry))) (length (now (undone .entry))) (length (now (shown .entry))))) (planeOf (now (stream .entry))) (now (plane .entry)) ⌝ }
+    ensures { λ a. ⌜ now (mask .exit) ≡ heldUnder 0 (first (streamTests (now (stream .entry)) r (length (now (plane .entry))) (length (now (mask .entry))) (length (now (undone .entry))) (length (now (shown .entry))))) (shotMask (shotOf (now (stream .entry)))) (now (mask .entry)) ⌝ }
+    ensures { λ a. ⌜ Result (pos 0) (accepted (streamTests (now (stream .entry)) r (length (now (plane .entry))) (length (now (mask .entry))) (length (now (undone .entry))) (length (now (shown .entry))))) (levelNumberAt r (now (stream .entry))) (now (undone .entry)) (now (undone .exit)) ⌝ }
+    ensures { λ a. ⌜ Result 0 (accepted (streamTests (now (stream .entry)) r (length (now (plane .entry))) (length (now (mask .entry))) (length (now (undone .entry))) (length (now (shown .entry))))) (levelSampleAt r (now (stream .entry))) (now (shown .entry)) (now (shown .exit)) ⌝ }
 {
-    let reading = decoder::read(stream, plane, mask);
-    let header = reading.header;
-    wavelet::undo(
-        header.kernel,
-        header.levels,
-        header.width,
-        header.height,
-        plane,
-        undone,
-    );
-    samples::show(header.depth, header.width, header.height, undone, shown);
-    reading
+    if bad_level(stream, r) {
+        return decoder::refused(Refusal::Level);
+    }
+    let headed = header_reader::read_header(stream);
+    let setting = headed.setting;
+    let header = headed.header;
+    match setting {
+        Setting::Refused(refusal) => decoder::refused(refusal),
+        Setting::Taken(kernel) => {
+            show_headed(kernel, header, stream, r, plane, mask, undone, shown)
+        }
+    }
+}
+
+// None of the tests in front of 17 holds, and r is above the stream's levels.
+fn bad_level(stream: &[u8], r: usize) -> bool
+    ensures { λ b. ⌜ b ≡ (accepted (frontTests (now (stream .entry))) && badLevel r (shotOf (now (stream .entry)) .levels)) ⌝ }
+{
+    if header::bad_header(stream) {
+        return false;
+    }
+    if header::bad_version(stream) {
+        return false;
+    }
+    if 3 < header::one_byte(stream, 5) {
+        return false;
+    }
+    let levels = header::one_byte(stream, 6);
+    if refusal::bad_levels(levels) {
+        return false;
+    }
+    refusal::bad_level(r, levels)
+}
+
+// The refusals behind those of the header, the body, and then the picture. The plane that the reader leaves is an accepted one.
+fn show_headed(
+    kernel: Kernel,
+    header: Header,
+    stream: &[u8],
+    r: usize,
+    plane: &mut [i32],
+    mask: &mut [u8],
+    undone: &mut [i32],
+    shown: &mut [u16],
+) -> Reading
+    requires { ⌜ Taken (now stream) kernel header ⌝ }
+    requires { ⌜ r ≤ header .levels ⌝ }
+    ensures { λ a. ⌜ LevelShown (first (areaTests (now (stream .entry)) r (length (now (plane .entry))) (length (now (mask .entry))) (length (now (undone .entry))) (length (now (shown .entry))))) r (now (stream .entry)) (now (plane .entry)) (now (plane .exit)) (now (mask .entry)) (now (mask .exit)) (now (undone .entry)) (now (undone .exit)) (now (shown .entry)) (now (shown .exit)) a ⌝ }
+{
+    let w = header.width;
+    let h = header.height;
+    if level_picture::bad_area(r, w, h, undone.len(), shown.len()) {
+        return decoder::refused(Refusal::Length);
+    }
+    let reading = decoder::read_headed(kernel, header, stream, plane, mask);
+    let outcome = reading.outcome;
+    match outcome {
+        Outcome::Refused(_) => reading,
+        Outcome::Done(_) => {
+            level_picture::show_area(
+                kernel,
+                header.levels,
+                r,
+                header.depth,
+                w,
+                h,
+                plane,
+                undone,
+                shown,
+            );
+            reading
+        }
+    }
 }

@@ -67,7 +67,7 @@ fn rows(shown: &[u16], w: usize, h: usize)
 
 fn show(stream: &[u8]) {
     let mut shown = [0u16; 4096];
-    let reading = showing::show_stream(stream, &mut shown);
+    let reading = showing_limited::show_limited(stream, &mut shown);
     let outcome = reading.outcome;
     match outcome {
         Outcome::Refused(refusal) => refused(refusal::refusal_number(refusal)),

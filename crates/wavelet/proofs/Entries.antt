@@ -18,15 +18,16 @@ use Rattle.grid.proofs.Passes.{cell, cell-of}
 use Rattle.plane.specs.Inner.{Below}
 use Rattle.plane.specs.Plane.{transformed, undone}
 use Rattle.refusal.specs.Results.{Result}
+use Rattle.refusal.proofs.Passed.{Sides}
 use Rattle.wavelet.specs.Wavelet.{samplesOf, coefficientsOf, coefficient, undoneNumber}
 use Rattle.wavelet.specs.Walks.{areaBound, Levels, Undone, Sized}
 
--- ---- all levels undone, in rows of the plane's own width
-pub all-undone : (k : Kernel) (J W H : ℕ) (p u u′ : List ℤ) → 0 < W → length u ≡ W * H → Undone k J W W W H p u u′ → Result (pos 0) true (λ i. undone k J W H (coefficientsOf W p) (i / W) (i % W)) u u′
-all-undone k J W H p u u′ some size t = record {
+-- ---- an area undone, in rows of its own width
+pub area-undone : (k : Kernel) (n W w h : ℕ) (p u u′ : List ℤ) → 0 < w → length u ≡ w * h → Undone k n W w w h p u u′ → Result (pos 0) true (λ i. undone k n w h (coefficientsOf W p) (i / w) (i % w)) u u′
+area-undone k n W w h p u u′ some size t = record {
   size = t .size;
-  cell = λ i h. let y : i / W < H = div-lt-iff-lt-mul some .1 (omega (arith, mul-comm W H)) in let x = mod-lt i some in
-      cell-of (pos 0) W u′ H i (omega (arith, mul-comm W H)) ∙ cell (pos 0) W u′ (i / W) (i % W) x ∙ t .inside (i / W) (i % W) y x;
+  cell = λ i lt. let y : i / w < h = div-lt-iff-lt-mul some .1 (omega (arith, mul-comm w h)) in let x = mod-lt i some in
+      cell-of (pos 0) w u′ h i (omega (arith, mul-comm w h)) ∙ cell (pos 0) w u′ (i / w) (i % w) x ∙ t .inside (i / w) (i % w) y x;
 }
 
 -- the filled buffer, cell by cell
@@ -37,24 +38,29 @@ filled W H l l′ P same size e = record {
 }
 
 -- ---- sizes and bounds
-module _ {J W H m n : ℕ} (z : Sized J W H m n) where
-  levels-of : (size : ℕ) → size ≡ W * H → Levels W W H J size
-  levels-of size e = record {
-    few = z .few;
-    some-w = z .some-w;
-    some-h = z .some-h;
-    w-most = z .w-most;
-    h-most = z .h-most;
-    wide = omega arith;
-    narrow = omega (arith, mul-le-mul-right {m = 2 ^ J} {n = 2 ^ 5} W (pow-mono (z .few)), z .w-most);
-    fits = omega (arith, mul-comm W H, e, z .some-w, digits-lt {q = H - 1} {m = H} {r = W - 1} {c = W} (omega (arith, z .some-h)) (omega (arith, z .some-w)));
-  }
+-- an area of w by h of a buffer of W by H
+pub area-levels : {W H w h n size : ℕ} → n ≤ 5 → Sides W H → 0 < w → w ≤ W → 0 < h → h ≤ H → size ≡ W * H → Levels W w h n size
+area-levels {W} {H} {w} {h} {n} few s some-w in-w some-h in-h e = record {
+  few = few;
+  some-w = some-w;
+  some-h = some-h;
+  w-most = omega (arith, s .width .1);
+  h-most = omega (arith, s .height .1);
+  wide = in-w;
+  narrow = omega (arith, mul-le-mul-right {m = 2 ^ n} {n = 2 ^ 5} W (pow-mono few), s .width .1);
+  fits = omega (arith, mul-comm W H, digits-lt {q = h - 1} {m = H} {r = w - 1} {c = W} (omega arith) (omega arith));
+}
 
-  pub sized-levels : {size : ℕ} → size ≡ n → Levels W W H J size
-  sized-levels e = levels-of _ (e ∙ z .to)
+-- the whole of it
+pub whole-levels : {W H n size : ℕ} → n ≤ 5 → Sides W H → size ≡ W * H → Levels W W H n size
+whole-levels few s e = area-levels few s (omega (arith, s .width .0)) (omega arith) (omega (arith, s .height .0)) (omega arith) e
 
-  pub plane-levels : Levels W W H J m
-  plane-levels = levels-of m (z .from)
+-- an area in a buffer of its own
+pub own-levels : {W w h n size m : ℕ} → Levels W w h n size → m ≡ w * h → Levels w w h n m
+own-levels z e = whole-levels (z .few) (record { width = (z .some-w, z .w-most); height = (z .some-h, z .h-most) }) e
+
+pub sized-levels : {J W H m n size : ℕ} → Sized J W H m n → size ≡ n → Levels W W H J size
+sized-levels z e = whole-levels (z .few) (record { width = (z .some-w, z .w-most); height = (z .some-h, z .h-most) }) (e ∙ z .to)
 
 areaBound-least : (n : ℕ) → n ≤ 5 → 1023 ≤ areaBound n
 unfolding areaBound

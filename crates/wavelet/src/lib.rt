@@ -6,7 +6,7 @@ ghost use lib.ListN.{length};
 ghost use mathlib.Core.Bool.{true};
 ghost use Rattle.line.specs.Transform as line;
 ghost use Rattle.line.specs.Cells.{lowSide};
-ghost use Rattle.grid.specs.Picture.{colPass, walk};
+ghost use Rattle.grid.specs.Picture.{colPass, walk, side};
 ghost use Rattle.plane.specs.Plane as planes;
 ghost use Rattle.plane.specs.Inner.{Below};
 ghost use Rattle.plane.specs.Plane.{transformed};
@@ -154,13 +154,31 @@ fn undo_levels(
     }
 }
 
-fn undo_all(kernel: Kernel, levels: usize, w: usize, h: usize, plane: &[i32], undone: &mut [i32])
-    requires { ⌜ Sized levels w h (length (now plane)) (length (now undone)) ⌝ }
-    requires { ⌜ Below (2 ^ 22 - 1) w h (coefficientsOf w (now plane)) ⌝ }
-    ensures { λ _. ⌜ Result (pos 0) true (λ i. planes.undone kernel levels w h (coefficientsOf w (now (plane .entry))) (i / w) (i % w)) (now (undone .entry)) (now (undone .exit)) ⌝ }
+// The side of the area that r levels leave of a side w: halved and rounded up r times.
+pub fn level_side(r: usize, w: usize) -> usize
+    requires { ⌜ (r ≤ 5) × (w ≤ 4096) ⌝ }
+    ensures { λ s. ⌜ s ≡ side r w ⌝ }
+{
+    (w + refusal::power(r) - 1) >> r
+}
+
+// The undone numbers of the upper left area of w by h of a plane of rows of `width`; no other coefficient is read.
+pub fn undo_area(
+    kernel: Kernel,
+    levels: usize,
+    width: usize,
+    w: usize,
+    h: usize,
+    plane: &[i32],
+    undone: &mut [i32],
+)
+    requires { ⌜ Levels width w h levels (length (now plane)) ⌝ }
+    requires { ⌜ length (now undone) ≡ w * h ⌝ }
+    requires { ⌜ Below (2 ^ 22 - 1) w h (coefficientsOf width (now plane)) ⌝ }
+    ensures { λ _. ⌜ Result (pos 0) true (λ i. planes.undone kernel levels w h (coefficientsOf width (now (plane .entry))) (i / w) (i % w)) (now (undone .entry)) (now (undone .exit)) ⌝ }
 {
     let mut q = [0i32; 4096];
-    undo_levels(kernel, plane, undone, &mut q, w, w, w, h, levels);
+    undo_levels(kernel, plane, undone, &mut q, width, w, w, h, levels);
 }
 
 // The undone numbers of a plane of w by h coefficients.
@@ -195,6 +213,6 @@ pub fn undo(
     if refusal::bad_magnitude(plane) {
         return Answer::Refused(Refusal::Magnitude);
     }
-    undo_all(chosen, levels, w, h, plane, undone);
+    undo_area(chosen, levels, w, w, h, plane, undone);
     Answer::Done
 }

@@ -3,6 +3,7 @@
 //! is compared with the reference's.
 
 mod outside;
+mod small_picture;
 
 use std::fmt;
 
@@ -23,6 +24,11 @@ impl Size {
 
     fn samples(self) -> usize {
         self.w * self.h
+    }
+
+    /// The area at level r.
+    fn area(self, r: usize) -> Size {
+        Size::new(self.w.div_ceil(1 << r), self.h.div_ceil(1 << r))
     }
 }
 
@@ -442,4 +448,6 @@ fn main() {
         ("write", &written),
         ("read", &read),
     ]);
+    let largest = SIZES[SIZES.len() - 1];
+    small_picture::print(largest, &picture(largest.w, largest.h));
 }

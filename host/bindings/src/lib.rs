@@ -55,6 +55,20 @@ mod raw {
             shown: *mut u16,
             shown_len: usize,
         ) -> u64;
+        pub fn dhiirqobaal_show_level(
+            kernel: usize,
+            levels: usize,
+            r: usize,
+            depth: usize,
+            w: usize,
+            h: usize,
+            plane: *const i32,
+            plane_len: usize,
+            undone: *mut i32,
+            undone_len: usize,
+            shown: *mut u16,
+            shown_len: usize,
+        ) -> u64;
         pub fn dhiirqobaal_truncate(
             q: usize,
             w: usize,
@@ -88,6 +102,21 @@ mod raw {
             plane_len: usize,
             mask: *mut u8,
             mask_len: usize,
+            results: *mut u64,
+            results_len: usize,
+        ) -> u64;
+        pub fn dhiirqobaal_show_stream(
+            stream: *const u8,
+            stream_len: usize,
+            r: usize,
+            plane: *mut i32,
+            plane_len: usize,
+            mask: *mut u8,
+            mask_len: usize,
+            undone: *mut i32,
+            undone_len: usize,
+            shown: *mut u16,
+            shown_len: usize,
             results: *mut u64,
             results_len: usize,
         ) -> u64;
@@ -224,6 +253,36 @@ pub fn show(depth: usize, w: usize, h: usize, undone: &[i32], shown: &mut [u16])
     }
 }
 
+#[allow(clippy::too_many_arguments)]
+pub fn show_level(
+    kernel: usize,
+    levels: usize,
+    r: usize,
+    depth: usize,
+    w: usize,
+    h: usize,
+    plane: &[i32],
+    undone: &mut [i32],
+    shown: &mut [u16],
+) -> u64 {
+    unsafe {
+        raw::dhiirqobaal_show_level(
+            kernel,
+            levels,
+            r,
+            depth,
+            w,
+            h,
+            plane.as_ptr(),
+            plane.len(),
+            undone.as_mut_ptr(),
+            undone.len(),
+            shown.as_mut_ptr(),
+            shown.len(),
+        )
+    }
+}
+
 pub fn truncate(q: usize, w: usize, h: usize, mask: &[u8], plane: &mut [i32]) -> u64 {
     unsafe {
         raw::dhiirqobaal_truncate(
@@ -281,6 +340,34 @@ pub fn read(stream: &[u8], plane: &mut [i32], mask: &mut [u8], results: &mut [u6
             plane.len(),
             mask.as_mut_ptr(),
             mask.len(),
+            results.as_mut_ptr(),
+            results.len(),
+        )
+    }
+}
+
+pub fn show_stream(
+    stream: &[u8],
+    r: usize,
+    plane: &mut [i32],
+    mask: &mut [u8],
+    undone: &mut [i32],
+    shown: &mut [u16],
+    results: &mut [u64],
+) -> u64 {
+    unsafe {
+        raw::dhiirqobaal_show_stream(
+            stream.as_ptr(),
+            stream.len(),
+            r,
+            plane.as_mut_ptr(),
+            plane.len(),
+            mask.as_mut_ptr(),
+            mask.len(),
+            undone.as_mut_ptr(),
+            undone.len(),
+            shown.as_mut_ptr(),
+            shown.len(),
             results.as_mut_ptr(),
             results.len(),
         )

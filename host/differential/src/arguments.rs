@@ -4,6 +4,7 @@
 use crate::call::Call;
 use crate::group::Group;
 use crate::guarded::held;
+use crate::levels;
 use crate::random::Random;
 use crate::shots::{self, Shape, MAGNITUDE_LIMIT};
 
@@ -18,6 +19,10 @@ struct Setup {
     mask: Vec<u8>,
     /// Length of the output buffer of W·H elements.
     out_len: usize,
+    /// Level of the picture that is shown, and the lengths of its two buffers.
+    r: usize,
+    undone_len: usize,
+    shown_len: usize,
     stream_len: usize,
     results_len: usize,
 }
@@ -39,6 +44,7 @@ fn any_numbers(random: &mut Random, len: usize) -> Vec<i32> {
 
 fn setup(random: &mut Random, shape: Shape) -> Setup {
     let len = shape.len();
+    let r = random.within(0, shape.levels);
     Setup {
         q: random.within(0, 22),
         samples: shots::samples(random, &shape),
@@ -47,6 +53,9 @@ fn setup(random: &mut Random, shape: Shape) -> Setup {
         region: mark_bytes(random, len),
         mask: mark_bytes(random, len),
         out_len: len,
+        r,
+        undone_len: shape.area_len(r),
+        shown_len: shape.area_len(r),
         stream_len: stream_len(random, &shape),
         results_len: random.pick(&shots::WRITE_RESULTS),
         shape,
@@ -119,6 +128,20 @@ fn show(setup: &Setup) -> Call {
     }
 }
 
+fn show_level(setup: &Setup) -> Call {
+    Call::ShowLevel {
+        kernel: setup.shape.kernel,
+        levels: setup.shape.levels,
+        r: setup.r,
+        depth: setup.shape.depth,
+        w: setup.shape.w,
+        h: setup.shape.h,
+        plane: setup.plane.clone(),
+        undone: held(setup.undone_len),
+        shown: held(setup.shown_len),
+    }
+}
+
 fn truncate(setup: &Setup) -> Call {
     Call::Truncate {
         q: setup.q,
@@ -147,6 +170,8 @@ fn write(setup: &Setup) -> Call {
 const TOP: usize = usize::MAX;
 const WRONG_KERNELS: [usize; 9] = [4, 5, 255, 256, 300, 1 << 32, (1 << 32) + 1, 1 << 63, TOP];
 const WRONG_LEVELS: [usize; 9] = [0, 6, 7, 63, 64, 256 + 1, (1 << 32) + 1, 1 << 63, TOP];
+/// Above every J; J + 1, which may be smaller, is made from J.
+const WRONG_R: [usize; 8] = [6, 7, 63, 64, 256, 1 << 32, 1 << 63, TOP];
 const WRONG_DEPTHS: [usize; 9] = [0, 11, 12, 16, 32, 256 + 8, (1 << 32) + 8, 1 << 63, TOP];
 const WRONG_PLANES: [usize; 8] = [23, 24, 31, 32, 64, 1 << 32, 1 << 63, TOP];
 /// Sides outside the limits, and some inside that are seldom the buffers' own.
@@ -248,7 +273,7 @@ fn wrong_rectangle(random: &mut Random, w: usize, h: usize) -> [u32; 4] {
 }
 
 /// Kinds of spoiling, by number.
-const KINDS: usize = 18;
+const KINDS: usize = 23;
 
 fn spoil(random: &mut Random, setup: &mut Setup, kind: usize) {
     let shape = &mut setup.shape;
@@ -302,10 +327,37 @@ fn spoil(random: &mut Random, setup: &mut Setup, kind: usize) {
             spoil_rectangle(random, shape, wrong);
         }
         16 => setup.stream_len = random.below(setup.stream_len + 1),
-        _ => {
+        17 => {
             // W and H exchanged: accepted lengths, another picture.
             (shape.w, shape.h) = (shape.h, shape.w);
         }
+        _ => spoil_level(random, setup, kind),
+    }
+}
+
+/// What only the picture at level r has.
+fn spoil_level(random: &mut Random, setup: &mut Setup, kind: usize) {
+    match kind {
+        18 if random.once_in(2) => setup.r = setup.shape.levels.wrapping_add(1),
+        18 => setup.r = random.pick(&WRONG_R),
+        // Another level, mostly with other lengths.
+        19 => setup.r = random.within(0, 5),
+        20 => setup.undone_len = wrong_area_length(random, setup.undone_len, setup.out_len),
+        21 => setup.shown_len = wrong_area_length(random, setup.shown_len, setup.out_len),
+        _ => {
+            // As long as the whole picture.
+            (setup.undone_len, setup.shown_len) = (setup.out_len, setup.out_len);
+        }
+    }
+}
+
+/// Near the area's length, or near the picture's.
+fn wrong_area_length(random: &mut Random, area: usize, len: usize) -> usize {
+    match random.below(6) {
+        0 => len,
+        1 => len + 1,
+        2 => len.saturating_sub(1),
+        _ => wrong_length(random, area),
     }
 }
 
@@ -354,6 +406,7 @@ groups!(mask);
 groups!(transform);
 groups!(undo);
 groups!(show);
+groups!(show_level);
 groups!(truncate);
 groups!(write);
 
@@ -370,7 +423,9 @@ pub fn every_size(group: &mut Group, random: &mut Random) {
         numbers: shots::rectangles(random, w, h),
     };
     let setup = setup(random, shape);
-    for entry in [region, mask, transform, undo, show, truncate, write] {
+    for entry in [
+        region, mask, transform, undo, show, show_level, truncate, write,
+    ] {
         group.compare(entry(&setup));
     }
 }
@@ -473,38 +528,44 @@ pub fn every_stream_buffer(group: &mut Group, random: &mut Random) {
     }
 }
 
-/// Undoes a plane with the reference.
-fn undone(kernel: usize, levels: usize, side: usize, plane: &[i32]) -> Vec<i32> {
-    let mut undone = vec![0; side * side];
-    let number = reference::undo(kernel, levels, side, side, plane, &mut undone);
-    assert_eq!(number, 0, "the plane is accepted");
-    undone
-}
-
-/// The accepted planes whose undone number at one place is about as far from 0
-/// as any: each coefficient takes the largest magnitude with the sign in which
-/// it alone moves that number.
-pub fn greatest_growth(group: &mut Group, random: &mut Random) {
-    let case = group.case as usize;
-    let (kernel, levels) = (case % 4, 1 + case / 4 % 5);
-    // The second kind of side is odd at every level.
-    let side = [2 << levels, (1 << levels) + 1][case / 20 % 2];
-    let place = random.below(side * side);
-    let mut plane = vec![0; side * side];
+/// The sign in which each coefficient alone moves the number at one place of
+/// the picture at level r.
+fn signs(shape: &Shape, r: usize, place: usize) -> Vec<i32> {
+    let mut plane = vec![0; shape.len()];
     let mut signs = Vec::new();
-    for i in 0..side * side {
+    for i in 0..shape.len() {
         plane[i] = 1 << 20;
-        signs.push(undone(kernel, levels, side, &plane)[place].signum());
+        signs.push(shots::picture_at(shape, r, &plane)[place].signum());
         plane[i] = 0;
     }
-    for top in [MAGNITUDE_LIMIT - 1, 1 - MAGNITUDE_LIMIT] {
-        group.compare(Call::Undo {
-            kernel,
-            levels,
-            w: side,
-            h: side,
-            plane: signs.iter().map(|sign| sign * top).collect(),
-            undone: held(side * side),
-        });
+    signs
+}
+
+/// The accepted planes whose number at one place, undone wholly or to some
+/// level r, is about as far from 0 as any: each coefficient takes the largest
+/// magnitude with the sign in which it alone moves that number.
+pub fn greatest_growth(group: &mut Group, random: &mut Random) {
+    let case = group.case as usize;
+    let levels = 1 + case / 4 % 5;
+    // The second kind of side is odd at every level.
+    let side = [2 << levels, (1 << levels) + 1][case / 20 % 2];
+    let shape = Shape {
+        kernel: case % 4,
+        levels,
+        depth: 10,
+        w: side,
+        h: side,
+        numbers: Vec::new(),
+    };
+    for r in [0, random.within(1, levels)] {
+        let place = random.below(shape.area_len(r));
+        let signs = signs(&shape, r, place);
+        for top in [MAGNITUDE_LIMIT - 1, 1 - MAGNITUDE_LIMIT] {
+            let plane: Vec<i32> = signs.iter().map(|sign| sign * top).collect();
+            if r == 0 {
+                group.compare(levels::undo_call(&shape, &plane));
+            }
+            group.compare(levels::level_call(&shape, r, &plane));
+        }
     }
 }

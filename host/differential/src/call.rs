@@ -73,6 +73,10 @@ calls! {
         plane: Vec<i32>, undone: Vec<i32>
     );
     Show = show(depth: usize, w: usize, h: usize, undone: Vec<i32>, shown: Vec<u16>);
+    ShowLevel = show_level(
+        kernel: usize, levels: usize, r: usize, depth: usize, w: usize, h: usize,
+        plane: Vec<i32>, undone: Vec<i32>, shown: Vec<u16>
+    );
     Truncate = truncate(q: usize, w: usize, h: usize, mask: Vec<u8>, plane: Vec<i32>);
     Write = write(
         plane: Vec<i32>, numbers: Vec<u32>,
@@ -80,6 +84,10 @@ calls! {
         mask: Vec<u8>, stream: Vec<u8>, results: Vec<u64>
     );
     Read = read(stream: Vec<u8>, plane: Vec<i32>, mask: Vec<u8>, results: Vec<u64>);
+    ShowStream = show_stream(
+        stream: Vec<u8>, r: usize, plane: Vec<i32>, mask: Vec<u8>,
+        undone: Vec<i32>, shown: Vec<u16>, results: Vec<u64>
+    );
     Cut = cut(
         stream: Vec<u8>, wanted: usize, plane: Vec<i32>, mask: Vec<u8>,
         out: Vec<u8>, results: Vec<u64>

@@ -4,6 +4,7 @@
 use crate::call::Call;
 use crate::group::Group;
 use crate::guarded::held;
+use crate::levels;
 use crate::random::Random;
 use crate::shots::{self, Shape};
 
@@ -103,8 +104,13 @@ fn show_region(group: &mut Group, chain: &Chain, plane: Vec<i32>) {
     let Call::Show { shown, .. } = answer else {
         return;
     };
-    let exact = (0..shape.len()).all(|i| chain.region[i] == 0 || shown[i] == chain.samples[i]);
-    group.expect(exact, &call, "the region shows the picture");
+    expect_region(group, chain, &call, &shown);
+}
+
+fn expect_region(group: &mut Group, chain: &Chain, call: &Call, shown: &[u16]) {
+    let same = |i: usize| chain.region[i] == 0 || shown[i] == chain.samples[i];
+    let exact = (0..chain.shape.len()).all(same);
+    group.expect(exact, call, "the region shows the picture");
 }
 
 /// Cuts to c bytes, reads, undoes and shows.
@@ -131,8 +137,21 @@ fn cut_and_show(group: &mut Group, chain: &Chain, c: usize) {
     };
     let (number, answer) = group.compare(call.clone());
     group.expect(number == 0, &call, "a cut stream is accepted");
-    if let Call::Read { plane, .. } = answer {
+    if let Call::Read { stream, plane, .. } = answer {
         show_region(group, chain, plane);
+        show_in_one(group, chain, &stream, c);
+    }
+}
+
+/// Reads, undoes and shows in one call, at a level from 1 to J + 1 that c picks and
+/// at level 0, where the region must show the picture.
+fn show_in_one(group: &mut Group, chain: &Chain, stream: &[u8], c: usize) {
+    let r = 1 + c % (chain.shape.levels + 1);
+    group.compare(levels::stream_call(&chain.shape, r, stream));
+    let call = levels::stream_call(&chain.shape, 0, stream);
+    let (_, answer) = group.compare(call.clone());
+    if let Call::ShowStream { shown, .. } = answer {
+        expect_region(group, chain, &call, &shown);
     }
 }
 
@@ -190,27 +209,8 @@ fn a_few_cuts(group: &mut Group, random: &mut Random, shape: Shape) {
     truncate_and_show(group, &chain, q);
 }
 
-/// Large pictures for every kernel: a panel of 1,366 by 768, 512 square, and the
-/// longest lines.
+/// Large pictures for every kernel.
 pub fn large(group: &mut Group, random: &mut Random) {
-    let case = group.case as usize;
-    let (levels, w, h) = match case / 4 {
-        0 => (5, 1366, 768),
-        1 => (1, 512, 512),
-        2 => (5, 4096, 33),
-        3 => (5, 31, 4096),
-        4 => (1, 4095, 2),
-        5 => (1, 3, 4095),
-        6 => (5, 4096, 1),
-        _ => (5, 1, 4095),
-    };
-    let shape = Shape {
-        kernel: case % 4,
-        levels,
-        depth: random.pick(&[8, 10]),
-        w,
-        h,
-        numbers: shots::rectangles(random, w, h),
-    };
+    let shape = shots::large_shape(random, group.case as usize);
     a_few_cuts(group, random, shape);
 }

@@ -11,6 +11,7 @@ mod call;
 mod chains;
 mod group;
 mod guarded;
+mod levels;
 mod random;
 mod shots;
 mod streams;
@@ -27,7 +28,7 @@ use random::Random;
 type Entry = (&'static str, u64, fn(&mut Group, &mut Random));
 
 #[rustfmt::skip]
-const GROUPS: [Entry; 46] = [
+const GROUPS: [Entry; 57] = [
     ("region, accepted", 4_000, arguments::region::accepted),
     ("region, one wrong argument", 9_000, arguments::region::one_wrong),
     ("region, several wrong arguments", 20_000, arguments::region::several_wrong),
@@ -43,6 +44,9 @@ const GROUPS: [Entry; 46] = [
     ("show, accepted", 4_000, arguments::show::accepted),
     ("show, one wrong argument", 9_000, arguments::show::one_wrong),
     ("show, several wrong arguments", 20_000, arguments::show::several_wrong),
+    ("show_level, accepted", 4_000, arguments::show_level::accepted),
+    ("show_level, one wrong argument", 9_000, arguments::show_level::one_wrong),
+    ("show_level, several wrong arguments", 20_000, arguments::show_level::several_wrong),
     ("truncate, accepted", 4_000, arguments::truncate::accepted),
     ("truncate, one wrong argument", 9_000, arguments::truncate::one_wrong),
     ("truncate, several wrong arguments", 20_000, arguments::truncate::several_wrong),
@@ -51,15 +55,23 @@ const GROUPS: [Entry; 46] = [
     ("write, several wrong arguments", 20_000, arguments::write::several_wrong),
     ("write, every stream buffer", 200, arguments::every_stream_buffer),
     ("every size to 40 by 40", 1_600, arguments::every_size),
-    ("undo, greatest growth", 40, arguments::greatest_growth),
+    ("undo and show_level, greatest growth", 40, arguments::greatest_growth),
     ("every region of 4 by 4", 1 << 16, arguments::every_small_region),
     ("every region of 5 by 3", 1 << 15, arguments::every_odd_region),
     ("every plane of 4 by 2", 1 << 16, arguments::every_small_plane),
     ("every row and column of 7", 1 << 14, arguments::every_odd_line),
     ("every row and column to 6", 1 << 12, arguments::every_short_line),
+    ("levels, every size to 20 by 20 with every kernel, J and r", 400, levels::every_setting),
+    ("levels, large pictures", 32, levels::large),
+    ("levels, buffer lengths", 200, levels::buffer_lengths),
+    ("levels, every coefficient too large", 200, levels::every_wrong_coefficient),
+    ("levels, planes that agree on the mask", 1_000, levels::agreeing_planes),
+    ("levels, cut streams of pictures", 300, levels::cut_pictures),
+    ("levels, cut streams of any planes", 600, levels::cut_planes),
     ("streams, whole", 4_000, streams::whole),
     ("streams, result arrays", 60, streams::result_lengths),
     ("streams, buffer lengths", 200, streams::buffer_lengths),
+    ("streams, lengths of the area's buffers", 200, streams::area_lengths),
     ("streams, every cut", 300, streams::every_cut),
     ("streams, every truncation", 300, streams::every_truncation),
     ("streams, what arrived", 300, streams::what_arrived),
@@ -77,15 +89,17 @@ const GROUPS: [Entry; 46] = [
 ];
 
 /// The numbers that each entry returns; each must come up in some case.
-const RETURNED: [(&str, &[u64]); 12] = [
+const RETURNED: [(&str, &[u64]); 14] = [
     ("region", &[0, 4, 7, 8, 5]),
     ("mask", &[0, 1, 2, 4, 5, 9]),
     ("transform", &[0, 1, 2, 3, 4, 5, 6]),
     ("undo", &[0, 1, 2, 4, 5, 10]),
     ("show", &[0, 3, 4, 5]),
+    ("show_level", &[0, 1, 2, 17, 3, 4, 5, 10]),
     ("truncate", &[0, 3, 4, 5, 9, 10]),
     ("write", &[0, 1, 2, 3, 4, 7, 8, 5, 10, 11]),
     ("read", &[0, 12, 13, 1, 2, 3, 4, 7, 8, 14, 5, 16]),
+    ("show_stream", &[0, 12, 13, 1, 2, 17, 3, 4, 7, 8, 14, 5, 16]),
     ("cut", &[0, 12, 13, 1, 2, 3, 4, 7, 8, 14, 5, 16, 15, 11]),
     ("body", &[0, 12, 13]),
     ("header", &[0, 12, 13, 1, 2, 3, 4, 7, 8, 14]),

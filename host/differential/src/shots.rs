@@ -29,6 +29,25 @@ impl Shape {
     pub fn len(&self) -> usize {
         self.w * self.h
     }
+
+    /// How long the picture at level r is.
+    pub fn area_len(&self, r: usize) -> usize {
+        let (w, h) = area(self.w, self.h, r);
+        w * h
+    }
+}
+
+/// The sides of the area at level r, any r: halved and rounded up r times over.
+pub fn area(w: usize, h: usize, r: usize) -> (usize, usize) {
+    let side = |side: usize| (0..r.min(64)).fold(side, |side, _| side.div_ceil(2));
+    (side(w), side(h))
+}
+
+/// What stands in the area at level r of a buffer of W·H cells.
+pub fn upper_left<T: Copy>(cells: &[T], shape: &Shape, r: usize) -> Vec<T> {
+    let (width, height) = area(shape.w, shape.h, r);
+    let rows = cells.chunks(shape.w).take(height);
+    rows.flat_map(|row| row[..width].to_vec()).collect()
 }
 
 /// Any side up to about the largest. Short sides and multiples of 2^J, which
@@ -70,6 +89,29 @@ pub fn shape(random: &mut Random, largest: usize) -> Shape {
 pub fn common_shape(random: &mut Random) -> Shape {
     let largest = random.pick(&[4, 8, 8, 16, 16, 32, 32, 64, 96]);
     shape(random, largest)
+}
+
+/// Large pictures for every kernel: a panel of 1,366 by 768, 512 square, and the
+/// longest lines. There are 32.
+pub fn large_shape(random: &mut Random, case: usize) -> Shape {
+    let (levels, w, h) = match case / 4 {
+        0 => (5, 1366, 768),
+        1 => (1, 512, 512),
+        2 => (5, 4096, 33),
+        3 => (5, 31, 4096),
+        4 => (1, 4095, 2),
+        5 => (1, 3, 4095),
+        6 => (5, 4096, 1),
+        _ => (5, 1, 4095),
+    };
+    Shape {
+        kernel: case % 4,
+        levels,
+        depth: random.pick(&[8, 10]),
+        w,
+        h,
+        numbers: rectangles(random, w, h),
+    }
 }
 
 /// At most 64 samples, for cases that try every place of a stream.
@@ -176,19 +218,66 @@ pub fn some_plane(random: &mut Random, shape: &Shape) -> Vec<i32> {
     if random.once_in(2) {
         return plane(random, shape.len());
     }
-    let samples = samples(random, shape);
+    transformed(shape, shape.levels, &samples(random, shape))
+}
+
+/// The picture's transform with so many levels, by the reference.
+pub fn transformed(shape: &Shape, levels: usize, samples: &[u16]) -> Vec<i32> {
     let mut plane = vec![0; shape.len()];
     let number = reference::transform(
         shape.kernel,
-        shape.levels,
+        levels,
         shape.depth,
         shape.w,
         shape.h,
-        &samples,
+        samples,
         &mut plane,
     );
     assert_eq!(number, 0, "the samples are accepted");
     plane
+}
+
+/// The picture at level r of a plane, by the reference.
+pub fn picture_at(shape: &Shape, r: usize, plane: &[i32]) -> Vec<i32> {
+    let len = shape.area_len(r);
+    let (mut undone, mut shown) = (vec![0; len], vec![0; len]);
+    let number = reference::show_level(
+        shape.kernel,
+        shape.levels,
+        r,
+        shape.depth,
+        shape.w,
+        shape.h,
+        plane,
+        &mut undone,
+        &mut shown,
+    );
+    assert_eq!(number, 0, "the plane is accepted");
+    undone
+}
+
+/// The region of the rectangles, by the reference.
+pub fn region(shape: &Shape) -> Vec<u8> {
+    let mut region = vec![0; shape.len()];
+    let number = reference::region(&shape.numbers, shape.w, shape.h, &mut region);
+    assert_eq!(number, 0, "the rectangles are accepted");
+    region
+}
+
+/// The mask of a region after so many levels, from 1 on, by the reference.
+pub fn mask(shape: &Shape, levels: usize, region: &[u8]) -> Vec<u8> {
+    let mut mask = vec![0; shape.len()];
+    let number = reference::mask(shape.kernel, levels, shape.w, shape.h, region, &mut mask);
+    assert_eq!(number, 0, "the region is accepted");
+    mask
+}
+
+/// Level r's mask of a region, on the area at level r.
+pub fn level_mask(shape: &Shape, r: usize, region: &[u8]) -> Vec<u8> {
+    match r {
+        0 => region.to_vec(),
+        _ => upper_left(&mask(shape, r, region), shape, r),
+    }
 }
 
 /// A written stream with what went into it.

@@ -3,6 +3,7 @@
 use crate::call::Call;
 use crate::group::Group;
 use crate::guarded::held;
+use crate::levels;
 use crate::random::Random;
 use crate::shots::{self, mend, Written};
 
@@ -15,6 +16,7 @@ fn compare_all(group: &mut Group, random: &mut Random, stream: &[u8], len: usize
         mask: held(len),
         results: held(random.pick(&shots::READ_RESULTS)),
     });
+    group.compare(at_some_level(random, stream, len));
     let wanted = random.below(stream.len() + 2);
     group.compare(Call::Cut {
         stream: stream.to_vec(),
@@ -45,6 +47,39 @@ fn out_len(random: &mut Random, wanted: usize) -> usize {
         1 => wanted.saturating_sub(1),
         2 => random.below(wanted + 1),
         _ => wanted,
+    }
+}
+
+/// Mostly a level that the header has, else one just above its J or far above.
+fn some_level(random: &mut Random, stream: &[u8]) -> usize {
+    let levels = usize::from(stream.get(6).map_or(0, |&byte| byte.min(6)));
+    match random.below(8) {
+        0 => levels + 1,
+        1 => random.pick(&[6, 64, 256, 1 << 32, 1 << 63, usize::MAX]),
+        _ => random.within(0, levels),
+    }
+}
+
+/// The stream at some level, its plane and mask of that many samples, the
+/// buffers of the area mostly as long as the header says.
+fn at_some_level(random: &mut Random, stream: &[u8], len: usize) -> Call {
+    let r = some_level(random, stream);
+    let area = header_area(stream, r);
+    let mut area_len = || match random.below(16) {
+        0 => area + 1,
+        1 => area.saturating_sub(1),
+        2 => len,
+        3 => 0,
+        _ => area,
+    };
+    Call::ShowStream {
+        stream: stream.to_vec(),
+        r,
+        plane: held(len),
+        mask: held(len),
+        undone: held(area_len()),
+        shown: held(area_len()),
+        results: held(random.pick(&shots::READ_RESULTS)),
     }
 }
 
@@ -79,6 +114,35 @@ pub fn result_lengths(group: &mut Group, random: &mut Random) {
             mask: held(len),
             results: held(results_len),
         });
+        let r = results_len % (written.shape.levels + 2);
+        let mut call = levels::stream_call(&written.shape, r, &written.stream);
+        if let Call::ShowStream { results, .. } = &mut call {
+            *results = held(results_len);
+        }
+        group.compare(call);
+    }
+}
+
+/// At every level buffers of lengths near the area's and near the picture's.
+pub fn area_lengths(group: &mut Group, random: &mut Random) {
+    let written = shots::tiny_written(random);
+    let len = written.shape.len();
+    for r in 0..=written.shape.levels {
+        let area = written.shape.area_len(r);
+        for (undone, shown) in levels::near_lengths(area, len) {
+            let lengths = [len, len, undone, shown];
+            let call = levels::stream_with_lengths(&written.stream, r, lengths);
+            let (number, _) = group.compare(call.clone());
+            let expected = match (undone, shown) == (area, area) {
+                true => 0,
+                false => 5,
+            };
+            group.expect(
+                number == expected,
+                &call,
+                "0 or 5 under its condition alone",
+            );
+        }
     }
 }
 
@@ -86,6 +150,8 @@ pub fn result_lengths(group: &mut Group, random: &mut Random) {
 pub fn buffer_lengths(group: &mut Group, random: &mut Random) {
     let written = shots::tiny_written(random);
     let len = written.shape.len();
+    let r = random.within(0, written.shape.levels);
+    let area = written.shape.area_len(r);
     let lengths = [0, 1, len - 1, len, len + 1, 2 * len];
     for plane_len in lengths {
         for mask_len in lengths {
@@ -95,6 +161,8 @@ pub fn buffer_lengths(group: &mut Group, random: &mut Random) {
                 mask: held(mask_len),
                 results: held(139),
             });
+            let lengths = [plane_len, mask_len, area, area];
+            group.compare(levels::stream_with_lengths(&written.stream, r, lengths));
             group.compare(Call::Cut {
                 stream: written.stream.clone(),
                 wanted: written.stream.len(),
@@ -161,6 +229,8 @@ fn cut_and_read(group: &mut Group, written: &Written, wanted: usize, out_len: us
         mask: held(len),
         results: held(139),
     });
+    let r = wanted % (written.shape.levels + 1);
+    group.compare(levels::stream_call(&written.shape, r, &out));
     group.compare(Call::Cut {
         stream: out,
         wanted: written.region_mark,
@@ -287,16 +357,21 @@ pub fn several_header_bytes(group: &mut Group, random: &mut Random) {
     }
     let len = match random.below(4) {
         0 => random.below(80),
-        1 => header_area(&stream),
+        1 => header_area(&stream, 0),
         _ => written.shape.w * written.shape.h,
     };
     compare_all(group, random, &stream, len);
 }
 
-/// W·H as the header says, if that is small enough for a buffer.
-fn header_area(stream: &[u8]) -> usize {
-    let side = |place: usize| usize::from(stream[place]) * 256 + usize::from(stream[place + 1]);
-    (side(8) * side(10)).min(1 << 12)
+/// The area at level r of W and H as the header says, if that is small enough
+/// for a buffer; 0 if it does not say them.
+fn header_area(stream: &[u8], r: usize) -> usize {
+    let side = |place: usize| match stream.get(place..place + 2) {
+        Some(bytes) => usize::from(bytes[0]) * 256 + usize::from(bytes[1]),
+        None => 0,
+    };
+    let (w, h) = shots::area(side(8), side(10), r);
+    (w * h).min(1 << 12)
 }
 
 /// Rectangles in the header: empty, outside, near the top of 16 bits.
@@ -388,6 +463,16 @@ fn compare_refused(group: &mut Group, stream: &[u8], len: usize) {
     };
     let (number, _) = group.compare(call.clone());
     group.expect(number == 16, &call, "refusal 16");
+    let r = stream.len() % (usize::from(stream[6]) + 1);
+    let call = at_level(stream, r, len);
+    let (number, _) = group.compare(call.clone());
+    group.expect(number == 16, &call, "refusal 16");
+}
+
+/// The stream at level r, the buffers of the area as long as the header says.
+fn at_level(stream: &[u8], r: usize, len: usize) -> Call {
+    let area = header_area(stream, r);
+    levels::stream_with_lengths(stream, r, [len, len, area, area])
 }
 
 /// Random bytes of every length to 200: as they are, with the length mended,
@@ -444,6 +529,9 @@ pub fn every_short_body(group: &mut Group, _: &mut Random) {
             stream.extend(body);
             mend(&mut stream);
             let len = 2 * usize::from(w);
+            for r in [0, 1] {
+                group.compare(at_level(&stream, r, len));
+            }
             group.compare(Call::Read {
                 stream,
                 plane: held(len),

@@ -1,8 +1,10 @@
 //! The walk over the levels, the same for numbers and for marks.
 
-/// The area that a level works on: the sides halved and rounded up as many
-/// times, so that a side of 1 stays.
-fn area(w: usize, h: usize, level: usize) -> (usize, usize) {
+use std::ops::Range;
+
+/// The area that so many levels leave, which the next one works on: the sides
+/// halved and rounded up as many times, so that a side of 1 stays.
+pub fn area(w: usize, h: usize, level: usize) -> (usize, usize) {
     (w.div_ceil(1 << level), h.div_ceil(1 << level))
 }
 
@@ -46,15 +48,16 @@ pub fn forward<T: Copy>(
     }
 }
 
-/// Columns, then rows, from the deepest level's area to the whole picture.
+/// Columns, then rows, from the last of the levels, the deepest, to the first:
+/// `0..J` undoes all, `r..J` the deepest J − r.
 pub fn backward<T: Copy>(
     plane: &mut [T],
-    levels: usize,
+    levels: Range<usize>,
     w: usize,
     h: usize,
     line: impl Fn(&[T]) -> Vec<T>,
 ) {
-    for level in (0..levels).rev() {
+    for level in levels.rev() {
         let area = area(w, h, level);
         columns(plane, w, area, &line);
         rows(plane, w, area, &line);
@@ -68,10 +71,20 @@ mod tests {
 
     #[test]
     fn areas() {
-        let sides = |w, h| (0..5).map(|level| area(w, h, level)).collect::<Vec<_>>();
-        let panel = [(1366, 768), (683, 384), (342, 192), (171, 96), (86, 48)];
+        let sides = |w, h| (0..6).map(|level| area(w, h, level)).collect::<Vec<_>>();
+        let panel = [
+            (1366, 768),
+            (683, 384),
+            (342, 192),
+            (171, 96),
+            (86, 48),
+            (43, 24),
+        ];
         assert_eq!(sides(1366, 768), panel);
-        assert_eq!(sides(5, 1), [(5, 1), (3, 1), (2, 1), (1, 1), (1, 1)]);
+        assert_eq!(
+            sides(5, 1),
+            [(5, 1), (3, 1), (2, 1), (1, 1), (1, 1), (1, 1)]
+        );
     }
 
     /// Numbers and planes of every size to 7 by 7, at more levels than such a
@@ -85,9 +98,9 @@ mod tests {
                 let back = |x: &[i64]| line::backward(kernel, x);
                 let mut plane = numbers.clone();
                 forward(&mut plane, levels, w, h, there);
-                backward(&mut plane, levels, w, h, back);
+                backward(&mut plane, 0..levels, w, h, back);
                 assert_eq!(plane, numbers, "kernel {kernel}, J {levels}, {w} by {h}");
-                backward(&mut plane, levels, w, h, back);
+                backward(&mut plane, 0..levels, w, h, back);
                 forward(&mut plane, levels, w, h, there);
                 assert_eq!(plane, numbers, "kernel {kernel}, J {levels}, {w} by {h}");
             }

@@ -52,6 +52,31 @@ fn mask_of(region: &[u8], kernel: usize, levels: usize, w: usize, h: usize) -> V
     marks.into_iter().map(u8::from).collect()
 }
 
+/// The picture at level r: what stands in its area when the deepest J − r levels
+/// are undone.
+fn picture_at(
+    plane: &[i32],
+    kernel: usize,
+    levels: usize,
+    r: usize,
+    w: usize,
+    h: usize,
+) -> Vec<i64> {
+    let mut numbers: Vec<i64> = plane.iter().map(|&c| i64::from(c)).collect();
+    levels::backward(&mut numbers, r..levels, w, h, |x| line::backward(kernel, x));
+    let (width, height) = levels::area(w, h, r);
+    let rows = numbers.chunks(w).take(height);
+    rows.flat_map(|row| row[..width].to_vec()).collect()
+}
+
+/// Below the range to 0, above it to its top.
+fn bring_into_range(undone: &[i32], depth: usize, shown: &mut [u16]) {
+    let top = (1 << depth) - 1;
+    for (sample, &number) in shown.iter_mut().zip(undone) {
+        *sample = number.clamp(0, top) as u16;
+    }
+}
+
 fn count_marks(mask: &[u8]) -> u64 {
     mask.iter().map(|&byte| u64::from(byte)).sum()
 }
@@ -139,7 +164,7 @@ pub fn undo(
         return number;
     }
     let mut numbers: Vec<i64> = plane.iter().map(|&c| i64::from(c)).collect();
-    levels::backward(&mut numbers, levels, w, h, |x| line::backward(kernel, x));
+    levels::backward(&mut numbers, 0..levels, w, h, |x| line::backward(kernel, x));
     narrow(&numbers, undone);
     0
 }
@@ -154,10 +179,39 @@ pub fn show(depth: usize, w: usize, h: usize, undone: &[i32], shown: &mut [u16])
     if let Err(number) = tested() {
         return number;
     }
-    let top = (1 << depth) - 1;
-    for (sample, &number) in shown.iter_mut().zip(undone) {
-        *sample = number.clamp(0, top) as u16;
+    bring_into_range(undone, depth, shown);
+    0
+}
+
+#[allow(clippy::too_many_arguments)]
+pub fn show_level(
+    kernel: usize,
+    levels: usize,
+    r: usize,
+    depth: usize,
+    w: usize,
+    h: usize,
+    plane: &[i32],
+    undone: &mut [i32],
+    shown: &mut [u16],
+) -> u64 {
+    let tested = || -> Tested {
+        refusal::kernel(kernel)?;
+        refusal::levels(levels)?;
+        refusal::level(r, levels)?;
+        refusal::depth(depth)?;
+        refusal::sides(w, h)?;
+        let (width, height) = levels::area(w, h, r);
+        refusal::length(plane.len(), w, h)?;
+        refusal::length(undone.len(), width, height)?;
+        refusal::length(shown.len(), width, height)?;
+        refusal::magnitudes(plane)
+    };
+    if let Err(number) = tested() {
+        return number;
     }
+    narrow(&picture_at(plane, kernel, levels, r, w, h), undone);
+    bring_into_range(undone, depth, shown);
     0
 }
 
@@ -257,7 +311,7 @@ impl Answer {
     }
 }
 
-/// The reader without its result cells; the cutter begins with it.
+/// The reader without its result cells; showing and the cutter begin with it.
 fn read_stream(stream: &[u8], plane: &mut [i32], mask: &mut [u8]) -> Result<Answer, u64> {
     let (header, start) = stream::parse(stream)?;
     let (w, h) = (header.w, header.h);
@@ -299,6 +353,36 @@ pub fn read(stream: &[u8], plane: &mut [i32], mask: &mut [u8], results: &mut [u6
             number
         }
     }
+}
+
+pub fn show_stream(
+    stream: &[u8],
+    r: usize,
+    plane: &mut [i32],
+    mask: &mut [u8],
+    undone: &mut [i32],
+    shown: &mut [u16],
+    results: &mut [u64],
+) -> u64 {
+    put(results, &[0; READ_RESULTS]);
+    let tested = || -> Tested {
+        let (header, _) = stream::parse_at(stream, r)?;
+        let (width, height) = levels::area(header.w, header.h, r);
+        refusal::length(undone.len(), width, height)?;
+        refusal::length(shown.len(), width, height)
+    };
+    // The reader tests the header again, then its own buffers and the body.
+    let answer = match tested().and_then(|()| read_stream(stream, plane, mask)) {
+        Ok(answer) => answer,
+        Err(number) => return number,
+    };
+    put(results, &answer.results());
+    let header = answer.header;
+    let (kernel, levels) = (header.kernel, header.levels);
+    let numbers = picture_at(plane, kernel, levels, r, header.w, header.h);
+    narrow(&numbers, undone);
+    bring_into_range(undone, header.depth, shown);
+    0
 }
 
 pub fn cut(

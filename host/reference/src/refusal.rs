@@ -1,5 +1,5 @@
 //! The refusals (docs/FORMAT.md), one function each. A call tests those that it
-//! has, in the order 12, 13, 1, 2, 3, 4, 7, 8, 14, 5, 6, 9, 10, 16, 15, 11.
+//! has, in the order 12, 13, 1, 2, 17, 3, 4, 7, 8, 14, 5, 6, 9, 10, 16, 15, 11.
 
 /// A refusal's number, or nothing.
 pub type Tested = Result<(), u64>;
@@ -25,6 +25,11 @@ pub fn levels(levels: usize) -> Tested {
     refuse_if(!(1..=5).contains(&levels), 2)
 }
 
+/// The level of a small picture, for a J already tested.
+pub fn level(r: usize, levels: usize) -> Tested {
+    refuse_if(r > levels, 17)
+}
+
 pub fn depth(depth: usize) -> Tested {
     refuse_if(!(1..=10).contains(&depth), 3)
 }
@@ -38,7 +43,7 @@ pub fn sides(w: usize, h: usize) -> Tested {
     refuse_if(outside(w) || outside(h), 4)
 }
 
-/// A buffer's length, for sides already tested.
+/// A buffer's length, for sides already tested or those of an area of theirs.
 pub fn length(len: usize, w: usize, h: usize) -> Tested {
     refuse_if(len != w * h, 5)
 }

@@ -89,6 +89,12 @@ pub fn find_body(stream: &[u8]) -> Result<usize, u64> {
 /// Refusals 12, 13, 1, 2, 3, 4, 7, 8 and 14; gives the header and the place
 /// where the body begins.
 pub fn parse(stream: &[u8]) -> Result<(Header, usize), u64> {
+    parse_at(stream, 0) // level 0 is above no J
+}
+
+/// The same for a stream that is to be shown at level r: refusals 12, 13, 1, 2,
+/// 17, 3, 4, 7, 8 and 14.
+pub fn parse_at(stream: &[u8], r: usize) -> Result<(Header, usize), u64> {
     let start = find_body(stream)?;
     let header = Header {
         kernel: stream[5] as usize,
@@ -104,6 +110,7 @@ pub fn parse(stream: &[u8]) -> Result<(Header, usize), u64> {
     };
     refusal::kernel(header.kernel)?;
     refusal::levels(header.levels)?;
+    refusal::level(r, header.levels)?;
     refusal::depth(header.depth)?;
     refusal::sides(header.w, header.h)?;
     refusal::rectangles(&header.numbers, header.w, header.h)?;

@@ -146,6 +146,14 @@ pub struct Cut {
 ///
 /// The input may be what a call that broke off has left. The picture is written as PNG where OUT
 /// ends in .png, else as PGM, unless --format says otherwise.
+///
+/// With --level R the R finest levels are not undone, and the picture that remains is small: each
+/// side is halved and rounded up, R times over; 'info' tells the sizes. It needs the bytes that the
+/// full picture needs: what has not arrived is missing in both. A sample of it stands for a
+/// block of 2^R by 2^R samples, and is what the transform makes of them: samples as captured are in
+/// the full picture alone. Where every marked bit arrived (status 0), each sample whose block
+/// touches a rectangle is the one that the whole stream shows at that level. A level above the
+/// stream's J is refused (17).
 #[derive(Args)]
 #[command(display_name = "dhiirqobaal")]
 #[command(after_help = STATUSES, verbatim_doc_comment)]
@@ -159,10 +167,13 @@ pub struct Show {
     /// Write the picture of each stream to DIR, its ending replaced by .pgm or .png
     #[arg(long, value_name = "DIR", allow_hyphen_values = true)]
     pub into: Option<PathBuf>,
+    /// The level of the picture: 0, the full one, to the stream's J, the smallest
+    #[arg(long, value_name = "R", default_value = "0", value_parser = whole, allow_hyphen_values = true)]
+    pub level: usize,
     /// The picture's format [default: by the ending of OUT, else pgm]
     #[arg(long, value_enum, ignore_case = true)]
     pub format: Option<FormatName>,
-    /// Draw a frame around every exact rectangle, one sample outside it
+    /// Draw a frame around every exact rectangle, one sample outside it; with --level around its blocks
     #[arg(long)]
     pub frames: bool,
 }
@@ -183,7 +194,7 @@ pub struct Compare {
     pub stream: Option<PathBuf>,
 }
 
-/// Draw an operator panel, encode it, cut it at several lengths and show each
+/// Draw an operator panel, encode it, cut it at several lengths and show each, one also small
 #[derive(Args)]
 #[command(display_name = "dhiirqobaal")]
 #[command(after_help = STATUSES)]
@@ -255,7 +266,7 @@ impl From<FormatName> for Format {
 }
 
 fn whole(text: &str) -> Result<usize, String> {
-    number(text).ok_or_else(|| "it is not a whole number".to_string())
+    number(text).ok_or_else(|| format!("it is not a whole number from 0 to {}", usize::MAX))
 }
 
 fn baud(text: &str) -> Result<u64, String> {

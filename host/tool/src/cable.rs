@@ -40,12 +40,8 @@ impl Default for Cable {
 }
 
 impl Cable {
-    /// How long the cable takes for some bytes.
-    pub fn seconds(&self, bytes: usize) -> f64 {
-        bytes as f64 * self.bits_per_byte as f64 / self.baud as f64
-    }
-
-    /// The same with some decimals, nine at most, rounded up: a time that carries the bytes.
+    /// The seconds that the cable takes for some bytes, with some decimals, nine at most, rounded up: a time that
+    /// carries the bytes.
     pub fn enough(&self, bytes: usize, decimals: u32) -> f64 {
         let unit = 10u128.pow(decimals);
         let bits = bytes as u128 * u128::from(self.bits_per_byte);
@@ -86,7 +82,7 @@ mod tests {
             [1_000_000_000, 100_000_000, 69_444, 69_445].map(|n| cable.bytes_in(Time(n))),
             [14_400, 1_440, 0, 1]
         );
-        assert_eq!(cable.seconds(28_800), 2.0);
+        assert_eq!([28_800, 98_354].map(|bytes| cable.enough(bytes, 3)), [2.0, 6.831]);
         assert_eq!(cable.length(1), "1 byte, 0.001 s");
     }
 
@@ -106,7 +102,7 @@ mod tests {
     fn a_second_with_start_and_stop_bit_is_11520_bytes() {
         let cable = Cable { bits_per_byte: 10, ..Cable::default() };
         assert_eq!(cable.bytes_in(Time(1_000_000_000)), 11_520);
-        assert_eq!(cable.seconds(23_040), 2.0);
+        assert_eq!(cable.enough(23_040, 3), 2.0);
         assert_eq!(cable.length(57_600), "57,600 bytes, 5.000 s");
     }
 

@@ -165,6 +165,11 @@ pub fn of_filling(further: bool) -> String {
     format!("behind the complete body {cause}; the stream was changed on the way: receive it again")
 }
 
+/// Which level was refused (17), and which there are.
+pub fn of_level(level: usize, levels: usize) -> String {
+    format!("{} (r is {level}); its J is {levels}: --level takes 0 to {levels}", meaning(17))
+}
+
 /// The setting that a header claims, for messages: under a refusal the codec answers no numbers. A header that was
 /// refused for its content has its 14 + 8k bytes.
 fn claimed(stream: &[u8]) -> Option<Setting> {

@@ -8,6 +8,7 @@ use crate::causes;
 use crate::failure::Failure;
 use crate::rectangles::{self, Rectangle};
 use crate::words;
+use picture::Picture;
 
 const HEADER_RESULTS: usize = 135;
 const READ_RESULTS: usize = 139;
@@ -31,6 +32,14 @@ impl Setting {
     pub fn area(&self) -> usize {
         self.width * self.height
     }
+
+    /// Width and height of the picture at a level: each side halved and rounded up, so many times over. A level above J,
+    /// which the codec refuses (17) before it looks at any buffer, gets those of level J. The setting is one that was
+    /// not refused.
+    pub fn size(&self, level: usize) -> (usize, usize) {
+        let block = 1 << level.min(self.levels);
+        (self.width.div_ceil(block), self.height.div_ceil(block))
+    }
 }
 
 /// A stream that was written.
@@ -51,7 +60,6 @@ pub struct Stream {
 
 /// What a stream holds.
 pub struct Reading {
-    pub plane: Vec<i32>,
     pub marks: usize,
     /// Whether every bit of the marked part arrived.
     pub whole: bool,
@@ -61,6 +69,12 @@ pub struct Reading {
 }
 
 impl Reading {
+    /// The first of the reader's result numbers.
+    fn of(results: &[u64; READ_RESULTS]) -> Reading {
+        let [marks, whole, region_mark, missing] = std::array::from_fn(|i| results[i] as usize);
+        Reading { marks, whole: whole == 1, region_mark, missing }
+    }
+
     /// Whether every bit of the picture arrived.
     pub fn complete(&self) -> bool {
         self.whole && self.missing == 0
@@ -154,12 +168,33 @@ impl Stream {
     }
 
     fn try_read(&self) -> Result<(u64, Reading), Failure> {
-        let mut plane = zeros::<i32>(self.setting.area())?;
-        let mut mask = zeros::<u8>(self.setting.area())?;
+        let (mut plane, mut mask) = self.buffers()?;
         let mut results = [0u64; READ_RESULTS];
         let number = bindings::read(&self.bytes, &mut plane, &mut mask, &mut results);
-        let [marks, whole, region_mark, missing] = std::array::from_fn(|i| results[i] as usize);
-        Ok((number, Reading { plane, marks, whole: whole == 1, region_mark, missing }))
+        Ok((number, Reading::of(&results)))
+    }
+
+    /// Reads the stream, whole or cut, and shows it at a level: 0, the full picture, to J.
+    pub fn show(&self, level: usize) -> Result<(Reading, Picture), Failure> {
+        let Stream { bytes, setting, .. } = self;
+        let (width, height) = setting.size(level);
+        let (mut plane, mut mask) = self.buffers()?;
+        let mut undone = zeros::<i32>(width * height)?;
+        let mut shown = zeros::<u16>(width * height)?;
+        let mut results = [0u64; READ_RESULTS];
+        let number = bindings::show_stream(bytes, level, &mut plane, &mut mask, &mut undone, &mut shown, &mut results);
+        accepted(number, || match number {
+            17 => causes::of_level(level, setting.levels),
+            _ => self.cause(number),
+        })?;
+        // The depth is 1 to 10 in a stream that was read.
+        let top = (1u16 << setting.depth) - 1;
+        Ok((Reading::of(&results), Picture { width, height, top, samples: shown }))
+    }
+
+    /// Buffers for its plane and its mask.
+    fn buffers(&self) -> Result<(Vec<i32>, Vec<u8>), Failure> {
+        Ok((zeros(self.setting.area())?, zeros(self.setting.area())?))
     }
 
     fn cause(&self, number: u64) -> String {
@@ -177,8 +212,7 @@ impl Stream {
 
     /// The bytes of the stream cut to a wanted length; `cause` says why a length is refused (15).
     pub fn cut(&self, wanted: usize, cause: impl FnOnce() -> String) -> Result<Vec<u8>, Failure> {
-        let mut plane = zeros::<i32>(self.setting.area())?;
-        let mut mask = zeros::<u8>(self.setting.area())?;
+        let (mut plane, mut mask) = self.buffers()?;
         // A wanted length above the stream's is refused (15) before the room is asked for (11).
         let mut out = zeros::<u8>(wanted.min(self.bytes.len()))?;
         let mut results = [0u64; 1];
@@ -196,19 +230,29 @@ impl Stream {
     }
 }
 
-/// The samples of a plane that was read, brought into range.
-pub fn show(setting: &Setting, plane: &[i32]) -> Result<Vec<u16>, Failure> {
-    let undone = undo(setting, plane)?;
-    let mut shown = zeros::<u16>(undone.len())?;
-    let number = bindings::show(setting.depth, setting.width, setting.height, &undone, &mut shown);
-    accepted(number, || causes::of_setting(number, setting))?;
-    Ok(shown)
-}
+#[cfg(test)]
+mod tests {
+    use super::*;
 
-fn undo(setting: &Setting, plane: &[i32]) -> Result<Vec<i32>, Failure> {
-    let mut undone = zeros::<i32>(plane.len())?;
-    let Setting { kernel, levels, width, height, .. } = *setting;
-    let number = bindings::undo(kernel, levels, width, height, plane, &mut undone);
-    accepted(number, || causes::of_setting(number, setting))?;
-    Ok(undone)
+    fn setting(levels: usize, width: usize, height: usize) -> Setting {
+        Setting { kernel: 0, levels, depth: 8, width, height, rectangles: Vec::new() }
+    }
+
+    #[test]
+    fn sizes_of_the_levels() {
+        let panel = setting(3, 1366, 768);
+        assert_eq!([0, 1, 2, 3].map(|level| panel.size(level)), [(1366, 768), (683, 384), (342, 192), (171, 96)]);
+        assert_eq!([4, usize::MAX].map(|level| panel.size(level)), [(171, 96); 2]);
+    }
+
+    #[test]
+    fn a_side_is_halved_and_rounded_up_so_many_times_over() {
+        for side in 1..=4096 {
+            let mut halved = side;
+            for level in 0..=5 {
+                assert_eq!(setting(5, side, 1).size(level), (halved, 1));
+                halved = halved / 2 + halved % 2;
+            }
+        }
+    }
 }

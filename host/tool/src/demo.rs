@@ -3,19 +3,22 @@
 use crate::cable::Cable;
 use crate::codec::{self, Stream, Written};
 use crate::commands::encode::{written, Choice};
-use crate::commands::show::shown;
 use crate::commands::write_picture;
 use crate::compare::differences;
 use crate::failure::{meaning, Failure, Status};
-use crate::input::is_standard;
+use crate::input::{self, is_standard};
 use crate::messages::Messages;
 use crate::output;
 use crate::panel;
+use crate::rectangles;
 use picture::{Format, Picture};
 use std::path::Path;
 
 const KERNEL: usize = 3;
 const LEVELS: usize = 5;
+
+/// The levels at which one cut is shown, the smaller pictures first.
+const SHOWN: [usize; 4] = [3, 2, 1, 0];
 
 /// The parts of the demonstration that every row of its table needs.
 struct Shot<'a> {
@@ -49,6 +52,7 @@ pub fn run(folder: &Path, quiet: bool) -> Result<Status, Failure> {
     messages.report(
         "* below the region mark: the cutter refuses it (15); what a call that breaks off there leaves is shown",
     )?;
+    messages.report(&level_table(&shot)?)?;
     messages.report(&kernel_table(&shot)?)?;
     messages.report(&format!("pictures and streams are in {}", folder.display()))?;
     Ok(Status::Done)
@@ -103,9 +107,8 @@ fn row(shot: &Shot, label: &str, length: usize) -> Result<String, Failure> {
         false => (shot.stream.cut(length, || meaning(15).to_string())?, label.to_string()),
     };
     let stream = Stream::of(bytes)?;
-    let reading = stream.read()?;
-    let picture = shown(&stream, &reading, &shot.messages)?;
-    let name = format!("cut-{length:07}");
+    let (reading, picture) = stream.show(0)?;
+    let name = cut_name(length);
     output::write(&shot.folder.join(format!("{name}.stream")), &stream.bytes)?;
     write_picture(&shot.folder.join(format!("{name}.pgm")), &picture, Format::Pgm, &shot.messages)?;
     let compared = |wanted| differences(&shot.panel.samples, &picture.samples, &shot.region, wanted, picture.width);
@@ -117,11 +120,57 @@ fn row(shot: &Shot, label: &str, length: usize) -> Result<String, Failure> {
     };
     Ok(format!(
         "{label:<12} {length:>7} {:>8.3} {:>3} {region:>21} {:>15} {:>13.3}",
-        shot.cable.seconds(length),
+        shot.cable.enough(length, 3),
         reading.missing,
         outside.largest,
         outside.mean(),
     ))
+}
+
+/// The name of a cut's files, without their ending.
+fn cut_name(length: usize) -> String {
+    format!("cut-{length:07}")
+}
+
+/// The cut to the region mark at several levels.
+fn level_table(shot: &Shot) -> Result<String, Failure> {
+    let cut = Stream::of(shot.stream.cut(shot.region_mark, || meaning(15).to_string())?)?;
+    let mut text = format!(
+        "\nthe cut at the region mark at several levels, its region beside the whole stream's at the same level\n\n\
+         {:<12} {:>12} {:>21}  file\n",
+        "level", "size", "region"
+    );
+    for level in SHOWN {
+        text += &level_row(shot, &cut, level)?;
+    }
+    Ok(text + &full_picture(shot)?)
+}
+
+/// The name of the file with the cut's picture at a level.
+fn level_file(shot: &Shot, level: usize) -> String {
+    format!("{}-level-{level}.pgm", cut_name(shot.region_mark))
+}
+
+/// Shows the cut and the whole stream at a level, compares the places of the rectangles, and writes the cut's picture.
+fn level_row(shot: &Shot, cut: &Stream, level: usize) -> Result<String, Failure> {
+    let ((_, picture), (_, whole)) = (cut.show(level)?, shot.stream.show(level)?);
+    let file = level_file(shot, level);
+    write_picture(&shot.folder.join(&file), &picture, Format::Pgm, &shot.messages)?;
+    let places = rectangles::at_level(&panel::rectangles(), level);
+    let region = codec::region(&places, picture.width, picture.height)?;
+    let region = match differences(&whole.samples, &picture.samples, &region, 1, picture.width).count {
+        0 => "alike".to_string(),
+        count => format!("{count} places differ"),
+    };
+    let size = format!("{} by {}", picture.width, picture.height);
+    Ok(format!("{level:<12} {size:>12} {region:>21}  {file}\n"))
+}
+
+/// Whether level 0 is the picture that was written for the same cut before.
+fn full_picture(shot: &Shot) -> Result<String, Failure> {
+    let (now, before) = (level_file(shot, 0), format!("{}.pgm", cut_name(shot.region_mark)));
+    let same = input::read(&shot.folder.join(&now))? == input::read(&shot.folder.join(&before))?;
+    Ok(format!("{now} is {} {before}", if same { "the same picture as" } else { "another picture than" }))
 }
 
 /// The same panel under each kernel: what the region and the whole stream take.
@@ -137,9 +186,9 @@ fn kernel_table(shot: &Shot) -> Result<String, Failure> {
             format!("{kernel} {name}"),
             written.marks,
             written.region_mark,
-            shot.cable.seconds(written.region_mark),
+            shot.cable.enough(written.region_mark, 3),
             written.bytes.len(),
-            shot.cable.seconds(written.bytes.len()),
+            shot.cable.enough(written.bytes.len(), 3),
         );
     }
     Ok(text)

@@ -16,8 +16,8 @@ pub enum Status {
 /// What each status means, for the help text.
 pub const STATUSES: &str = "\
 Exit status:
-  0  done; in show, info and cut every marked bit arrived, so that every rectangle is exact;
-     in compare no sample differs
+  0  done; in show, info and cut every marked bit arrived, so that every rectangle is exact (at a
+     level above 0: what the whole stream shows there); in compare no sample differs
   1  shown or told, but not exact: not every marked bit arrived or, with no rectangle, not every
      bit of the picture; in compare a sample differs, or nothing was compared
   2  wrong usage
@@ -73,12 +73,12 @@ impl fmt::Display for Failure {
 }
 
 /// The refusals' numbers and meanings, as docs/FORMAT.md and the C header have them.
-const REFUSALS: [(u64, &str); 16] = [
+const REFUSALS: [(u64, &str); 17] = [
     (1, "the kernel is not 0 to 3"),
     (2, "the levels J are not 1 to 5"),
     (3, "the depth D is not 1 to 10"),
     (4, "width or height is not 1 to 4,096"),
-    (5, "a buffer does not have width times height elements"),
+    (5, "a buffer is not as long as the picture or the area that it is for"),
     (6, "a sample is above 2^D - 1"),
     (7, "there are more than 32 rectangles"),
     (8, "a rectangle is empty or not wholly inside the picture"),
@@ -90,6 +90,7 @@ const REFUSALS: [(u64, &str); 16] = [
     (14, "the stream's plane count T is above 22"),
     (15, "the wanted length is below the region mark or above the stream's length, or the marked part is not whole"),
     (16, "behind the complete body there is a filling bit that is not 0, or a further byte"),
+    (17, "the level r is above the levels J"),
 ];
 
 /// The meaning of a refusal's number.
@@ -109,6 +110,6 @@ mod tests {
         for (number, text) in REFUSALS {
             assert!(header.contains(&format!("case {number}: return \"{text}")), "{number}: {text}");
         }
-        assert!(header.contains(&format!("default: return \"{}\"", meaning(17))));
+        assert!(header.contains(&format!("default: return \"{}\"", meaning(u64::MAX))));
     }
 }

@@ -73,6 +73,17 @@ pub fn of_numbers(numbers: impl Iterator<Item = u64>) -> Vec<Rectangle> {
     numbers.chunks_exact(4).map(rectangle).collect()
 }
 
+/// The places that belong to the rectangles in the picture at a level: those whose block of 2^level by 2^level samples
+/// touches the rectangle. The rectangles are those of a stream, which are not empty.
+pub fn at_level(rectangles: &[Rectangle], level: usize) -> Vec<Rectangle> {
+    let places = |r: &Rectangle| {
+        let (x, y) = (r.x >> level, r.y >> level);
+        let (right, lower) = ((r.x + r.width - 1) >> level, (r.y + r.height - 1) >> level);
+        Rectangle { x, y, width: right - x + 1, height: lower - y + 1 }
+    };
+    rectangles.iter().map(places).collect()
+}
+
 #[cfg(test)]
 mod tests {
     use super::*;
@@ -99,6 +110,21 @@ mod tests {
         assert_eq!(listed(text), Ok(vec![rectangle(1, 2, 3, 4), rectangle(7, 8, 5, 6)]));
         assert_eq!(listed(""), Ok(vec![]));
         assert!(listed("\n1,2,3,4\n1,2,3\n").unwrap_err().starts_with("line 3: '1,2,3' is no rectangle"));
+    }
+
+    #[test]
+    fn at_a_level_a_rectangle_has_the_places_whose_blocks_touch_it() {
+        for (x, width) in [(0, 1), (3, 1), (3, 2), (4, 4), (5, 9), (7, 2), (0, 17), (16, 1)] {
+            for level in 0..=5 {
+                let touches = |place: u64| (place << level) < x + width && x < ((place + 1) << level);
+                let places: Vec<u64> = (0..17).filter(|&place| touches(place)).collect();
+                let (first, count) = (places[0], places.len() as u64);
+                assert_eq!(
+                    at_level(&[rectangle(x, 2, width, 1), rectangle(2, x, 1, width)], level),
+                    [rectangle(first, 2 >> level, count, 1), rectangle(2 >> level, first, 1, count)]
+                );
+            }
+        }
     }
 
     #[test]

@@ -12,6 +12,20 @@ pub fn arrival(stream: &Stream, reading: &Reading) -> String {
     format!("{}; {}", bytes_arrived(stream), bits_arrived(stream, reading))
 }
 
+/// The same of a picture that is shown at a level; above 0 the level and the size stand in front.
+pub fn arrival_at(level: usize, stream: &Stream, reading: &Reading) -> String {
+    if level == 0 {
+        return arrival(stream, reading);
+    }
+    let (size, bits) = (extent(stream.setting.size(level)), told_of_bits(stream, reading, SMALL));
+    format!("level {level}, {size}; {}; {bits}", bytes_arrived(stream))
+}
+
+/// A width and a height.
+fn extent((width, height): (usize, usize)) -> String {
+    format!("{} by {}", words::size(width), words::size(height))
+}
+
 pub fn bytes_arrived(stream: &Stream) -> String {
     match (stream.bytes.len(), stream.sent) {
         (there, sent) if there < sent => format!("{} of {} bytes arrived", words::size(there), words::size(sent)),
@@ -19,15 +33,30 @@ pub fn bytes_arrived(stream: &Stream) -> String {
     }
 }
 
+/// What the rectangles are where every marked bit arrived, and where not every one did.
+type Outcomes = [&'static str; 2];
+
+const FULL: Outcomes = ["exact unless the link changed a bit", "not exact"];
+
+/// In a small picture, whose samples are the transform's and not those of the picture that was captured.
+const SMALL: Outcomes = [
+    "what the whole stream shows at this level, unless the link changed a bit",
+    "perhaps not what the whole stream shows at this level",
+];
+
 pub fn bits_arrived(stream: &Stream, reading: &Reading) -> String {
+    told_of_bits(stream, reading, FULL)
+}
+
+fn told_of_bits(stream: &Stream, reading: &Reading, [whole, part]: Outcomes) -> String {
     let (rectangles, they) = match stream.setting.rectangles.len() {
         0 => return no_rectangle(reading),
         1 => ("the rectangle".to_string(), "it is"),
         count => (format!("the {count} rectangles"), "they are"),
     };
     match reading.whole {
-        true => format!("every bit of {rectangles} arrived: {they} exact unless the link changed a bit"),
-        false => format!("not every bit of {rectangles} arrived: {they} not exact"),
+        true => format!("every bit of {rectangles} arrived: {they} {whole}"),
+        false => format!("not every bit of {rectangles} arrived: {they} {part}"),
     }
 }
 
@@ -77,10 +106,13 @@ pub fn text(told: &Told) -> String {
 
 fn header_lines(stream: &Stream) -> Vec<(&'static str, String)> {
     let setting = &stream.setting;
+    let size = |level| format!("{level}: {}", extent(setting.size(level)));
+    let sizes: Vec<String> = (0..=setting.levels).map(size).collect();
     let mut lines = vec![
         ("version", "1".to_string()),
         ("kernel", format!("{} ({})", setting.kernel, kernel_name(setting.kernel))),
         ("levels J", setting.levels.to_string()),
+        ("level sizes", sizes.join("; ")),
         ("depth D", setting.depth.to_string()),
         ("width W", setting.width.to_string()),
         ("height H", setting.height.to_string()),
@@ -114,6 +146,10 @@ pub fn json(told: &Told) -> Value {
     let Told { name, stream, reading, body, cable } = told;
     let setting = &stream.setting;
     let rectangle = |r: &Rectangle| json!({"x": r.x, "y": r.y, "width": r.width, "height": r.height});
+    let size = |level| {
+        let (width, height) = setting.size(level);
+        json!({"level": level, "width": width, "height": height})
+    };
     let mark = reading.whole.then_some(reading.region_mark);
     json!({
         "file": name,
@@ -125,6 +161,7 @@ pub fn json(told: &Told) -> Value {
         "depth": setting.depth,
         "width": setting.width,
         "height": setting.height,
+        "sizes": (0..=setting.levels).map(size).collect::<Vec<_>>(),
         "planes": stream.planes,
         "rectangles": setting.rectangles.iter().map(rectangle).collect::<Vec<_>>(),
         "coefficients": setting.area(),

@@ -2,7 +2,7 @@
 
 use super::{marked_rectangles, read_picture, read_stream};
 use crate::args::Compare;
-use crate::codec;
+use crate::codec::{self, Setting};
 use crate::compare::{differences, Differences};
 use crate::failure::{Failure, Status};
 use crate::input;
@@ -52,14 +52,25 @@ fn region_of_stream(path: &Path, picture: &Picture, messages: &Messages) -> Resu
     let name = input::name(path);
     let stream = read_stream(path, messages)?;
     let reading = stream.read().map_err(|failure| failure.of(&name))?;
-    messages.report(&format!("{name}: {}", report::arrival(&stream, &reading)))?;
     let setting = &stream.setting;
     if (setting.width, setting.height) != (picture.width, picture.height) {
-        let text =
-            format!("{} by {} samples, where the pictures have {}", setting.width, setting.height, extent(picture));
-        return Err(Failure::input_output(text).of(&name));
+        return Err(Failure::input_output(other_size(setting, picture)).of(&name));
     }
+    messages.report(&format!("{name}: {}", report::arrival(&stream, &reading)))?;
     codec::region(&setting.rectangles, setting.width, setting.height).map_err(|failure| failure.of(&name))
+}
+
+/// Which sizes differ, and whether the pictures are small ones of the stream.
+fn other_size(setting: &Setting, picture: &Picture) -> String {
+    let level = (1..=setting.levels).find(|&level| setting.size(level) == (picture.width, picture.height));
+    let advice = match level {
+        Some(level) => {
+            format!(", the size of level {level}: --stream compares full pictures, in small ones give --rect")
+        }
+        None => String::new(),
+    };
+    let Setting { width, height, .. } = setting;
+    format!("{width} by {height} samples, where the pictures have {}{advice}", extent(picture))
 }
 
 fn text(found: &Differences) -> String {

@@ -9,6 +9,7 @@ use crate::input;
 use crate::jobs::{self, Job};
 use crate::messages::Messages;
 use crate::output;
+use crate::rectangles::{self, Rectangle};
 use crate::report;
 use picture::{Format, Picture};
 
@@ -17,50 +18,39 @@ pub fn run(args: &Show, quiet: bool) -> Result<Status, Failure> {
     let ending = if format == Some(Format::Png) { ".png" } else { ".pgm" };
     let jobs = jobs::jobs(&args.files, args.into.as_deref(), &[], |input| with_ending(input, ending))?;
     let messages = messages(quiet, &jobs);
-    Ok(each(&jobs, |job| one(job, format, args.frames, &messages)))
+    Ok(each(&jobs, |job| one(job, format, args, &messages)))
 }
 
-fn one(job: &Job, format: Option<Format>, framed: bool, messages: &Messages) -> Result<Status, Failure> {
+fn one(job: &Job, format: Option<Format>, args: &Show, messages: &Messages) -> Result<Status, Failure> {
     let name = input::name(&job.input);
     let stream = read_stream(&job.input, messages)?;
-    let reading = stream.read().map_err(|failure| failure.of(&name))?;
-    let mut picture = shown(&stream, &reading, messages).map_err(|failure| failure.of(&name))?;
-    if framed {
-        frame(&mut picture, &stream, &reading, &name, messages)?;
+    let (reading, mut picture) = stream.show(args.level).map_err(|failure| failure.of(&name))?;
+    if args.frames {
+        match why_no_frame(&stream, &reading) {
+            Some(reason) => messages.note(&format!("{name}: {reason}, so that no frame is drawn")),
+            None => frame(&mut picture, &stream.setting.rectangles, args.level)?,
+        }
     }
     let format = format.or_else(|| Format::of_name(&job.output)).unwrap_or(Format::Pgm);
     write_picture(&job.output, &picture, format, messages)?;
-    let arrival = report::arrival(&stream, &reading);
+    let arrival = report::arrival_at(args.level, &stream, &reading);
     messages.report(&format!("{}: shown from {name}; {arrival}", output::name(&job.output)))?;
     Ok(report::status(&stream, &reading))
 }
 
-/// The picture of a stream that was read.
-pub fn shown(stream: &Stream, reading: &Reading, messages: &Messages) -> Result<Picture, Failure> {
-    let setting = &stream.setting;
-    messages.progress(reading.plane.len(), "undoing the transform");
-    let samples = codec::show(setting, &reading.plane)?;
-    // The depth is 1 to 10 in a stream that was read.
-    let top = (1u16 << setting.depth) - 1;
-    Ok(Picture { width: setting.width, height: setting.height, top, samples })
+/// Why there is nothing to frame, where that is so.
+fn why_no_frame(stream: &Stream, reading: &Reading) -> Option<&'static str> {
+    match (stream.setting.rectangles.is_empty(), reading.whole) {
+        (true, _) => Some("no rectangle is marked"),
+        (false, false) => Some("not every marked bit arrived"),
+        (false, true) => None,
+    }
 }
 
-/// Frames around the rectangles, where they are exact.
-fn frame(
-    picture: &mut Picture,
-    stream: &Stream,
-    reading: &Reading,
-    name: &str,
-    messages: &Messages,
-) -> Result<(), Failure> {
-    let rectangles = &stream.setting.rectangles;
-    if rectangles.is_empty() {
-        messages.note(&format!("{name}: no rectangle is marked, so that no frame is drawn"));
-    } else if !reading.whole {
-        messages.note(&format!("{name}: not every marked bit arrived, so that no frame is drawn"));
-    } else {
-        let region = codec::region(rectangles, picture.width, picture.height)?;
-        frames::draw(picture, rectangles, &region);
-    }
+/// Frames around the places that belong to the rectangles in a picture at a level.
+fn frame(picture: &mut Picture, rectangles: &[Rectangle], level: usize) -> Result<(), Failure> {
+    let places = rectangles::at_level(rectangles, level);
+    let region = codec::region(&places, picture.width, picture.height)?;
+    frames::draw(picture, &places, &region);
     Ok(())
 }

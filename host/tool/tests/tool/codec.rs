@@ -73,6 +73,7 @@ fn noise_never_panics() {
         for name in ["noise", "stream", "file.pgm"] {
             here.run(&format!("info {name}"));
             here.run(&format!("show {name} out --frames"));
+            here.run(&format!("show {name} out --frames --level {}", seed % 7));
             here.run(&format!("cut {name} out --length {length}"));
             here.run(&format!("encode {name} out --levels 1"));
             here.run(&format!("compare {name} file.pgm"));
@@ -91,16 +92,25 @@ fn the_demonstration() {
         let line = text.lines().find(|line| line.starts_with(name)).unwrap_or("");
         line.strip_prefix(name).unwrap_or("").split_whitespace().collect::<Vec<_>>().join(" ")
     };
-    assert_eq!(row("region mark"), "98354 6.830 9 exact 240 117.601");
+    assert_eq!(row("region mark"), "98354 6.831 9 exact 240 117.601");
     assert_eq!(row("16 s"), "230400 16.000 8 exact 232 57.674");
     assert_eq!(row("32 s"), "460800 32.000 7 exact 185 27.324");
     assert_eq!(row("64 s"), "921600 64.000 3 exact 15 1.744");
-    assert_eq!(row("all"), "1251984 86.943 0 exact 0 0.000");
+    assert_eq!(row("all"), "1251984 86.944 0 exact 0 0.000");
     assert!(row("4 s *").starts_with("57600 4.000 9 ") && row("4 s *").contains("samples differ"));
     let told = told(&here, "shots/panel.stream");
     assert_eq!((told["width"].as_u64(), told["height"].as_u64()), (Some(1366), Some(768)));
     assert_eq!(told["rectangles"].as_array().unwrap().len(), 8);
     here.ends("cut shots/panel.stream marked --mark", 0, "98,354 of 1,251,984 bytes");
+    for (level, size) in [(3, "171 96"), (2, "342 192"), (1, "683 384"), (0, "1366 768")] {
+        let file = format!("cut-0098354-level-{level}.pgm");
+        assert_eq!(row(&format!("{level}   ")), format!("{} alike {file}", size.replace(' ', " by ")));
+        here.ends(&format!("show marked level.pgm --level {level}"), 0, "");
+        assert_eq!(here.get(&format!("shots/{file}")), here.get("level.pgm"));
+        assert!(here.get("level.pgm").starts_with(format!("P5\n{size}\n255\n").as_bytes()));
+    }
+    assert_eq!(row("cut-0098354-level-0.pgm"), "is the same picture as cut-0098354.pgm");
+    assert_eq!(here.get("shots/cut-0098354-level-0.pgm"), here.get("shots/cut-0098354.pgm"));
     here.put("part", &here.get("marked")[..57_600]);
     here.ends("show part part.pgm", 1, "57,600 of 98,354 bytes arrived; not every bit of the 8 rectangles arrived");
 }

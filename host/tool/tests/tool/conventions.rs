@@ -13,14 +13,14 @@ fn help_and_version_on_every_command() {
     let here = Folder::new();
     for words in ["-V", "--version"] {
         let answer = here.run(words);
-        assert_eq!((answer.status, answer.said().as_str()), (0, "dhiirqobaal 1.0.0\n"));
+        assert_eq!((answer.status, answer.said().as_str()), (0, "dhiirqobaal 1.1.0\n"));
     }
     for command in COMMANDS {
         for words in ["-h", "--help"] {
             here.ends(&format!("{command} {words}"), 0, &format!("dhiirqobaal {command}"));
         }
         here.ends(&format!("help {command}"), 0, &format!("dhiirqobaal {command}"));
-        assert_eq!(here.run(&format!("{command} --version")).said(), "dhiirqobaal 1.0.0\n");
+        assert_eq!(here.run(&format!("{command} --version")).said(), "dhiirqobaal 1.1.0\n");
         here.ends("help", 0, &format!("\n  {command}"));
     }
     for line in ["help --help", "help -h", "help help", "help --version"] {
@@ -31,7 +31,7 @@ fn help_and_version_on_every_command() {
     }
 }
 
-const WRONG: [&str; 33] = [
+const WRONG: [&str; 38] = [
     "",
     "decode in.pgm out",
     "encode",
@@ -59,6 +59,11 @@ const WRONG: [&str; 33] = [
     "cut s out --seconds 1.0000000001",
     "show s",
     "show s out --format jpeg",
+    "show s out --level",
+    "show s out --level two",
+    "show s out --level -1",
+    "show s out --level 1 --level 1",
+    "info s --level 1",
     "compare in.pgm",
     "compare in.pgm in.pgm --stream s --rect 0,0,1,1",
     "compare in.pgm in.pgm --stream s --rects s",
@@ -207,7 +212,9 @@ fn json_is_one_object_a_line() {
         lines[0],
         json!({
             "file": "whole", "arrived": 24, "sent": 24, "kernel": 0, "kernel_name": "s", "levels": 1, "depth": 8,
-            "width": 2, "height": 2, "planes": 3, "rectangles": [{"x": 0, "y": 0, "width": 1, "height": 1}],
+            "width": 2, "height": 2,
+            "sizes": [{"level": 0, "width": 2, "height": 2}, {"level": 1, "width": 1, "height": 1}],
+            "planes": 3, "rectangles": [{"x": 0, "y": 0, "width": 1, "height": 1}],
             "coefficients": 4, "marked": 4, "marked_bits_arrived": true, "region_mark": 24, "seconds": 1.0,
             "region_mark_seconds": 1.0, "body_start": 22, "body_length": 2, "q": 0, "complete": true,
         })
@@ -216,7 +223,9 @@ fn json_is_one_object_a_line() {
         lines[1],
         json!({
             "file": "part", "arrived": 23, "sent": 24, "kernel": 0, "kernel_name": "s", "levels": 1, "depth": 8,
-            "width": 2, "height": 2, "planes": 3, "rectangles": [{"x": 0, "y": 0, "width": 1, "height": 1}],
+            "width": 2, "height": 2,
+            "sizes": [{"level": 0, "width": 2, "height": 2}, {"level": 1, "width": 1, "height": 1}],
+            "planes": 3, "rectangles": [{"x": 0, "y": 0, "width": 1, "height": 1}],
             "coefficients": 4, "marked": 4, "marked_bits_arrived": false, "region_mark": null, "seconds": 0.958333334,
             "region_mark_seconds": null, "body_start": 22, "body_length": 1, "q": 3, "complete": false,
         })

@@ -5,6 +5,7 @@ mod broken_call;
 mod codec;
 mod conventions;
 mod honest_words;
+mod levels;
 mod messages;
 mod nothing_lost;
 mod pictures;

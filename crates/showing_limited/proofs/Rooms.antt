@@ -6,7 +6,6 @@ use Prim.Native.Nat.{ℕ, _*_, _<_, _≤_}
 use native.Mathlib.Nat.{mul-le-mul}
 use native.Mathlib.Omega.{arith}
 use lib.Dec.{leb}
-use lib.IntN.{pos}
 use lib.ListN.{length, take, drop, replicate, length-replicate, take-append-drop}
 use lib.Seq.{length-take-le}
 use borrow.Author.Tests.{leb-true, le-leb, lt-leb}
@@ -16,8 +15,8 @@ use Rattle.header.specs.Header.{badHeader}
 use Rattle.header.specs.Fields.{shotOf}
 use Rattle.codestream.specs.Reading.{readTests}
 use Rattle.exactness.specs.Shown.{shownAt}
-use Rattle.showing.specs.Inner.{samplesAfter, Alike}
-use Rattle.showing.specs.Showing.{roomFor, shownAfter}
+use Rattle.showing_limited.specs.Inner.{samplesAfter}
+use Rattle.showing_limited.specs.Showing.{roomFor, shownAfter}
 
 pub area-fits : {w h : ℕ} → w ≤ 64 → h ≤ 64 → w * h ≤ 4096
 area-fits {w} {h} p q = mul-le-mul p q
@@ -58,11 +57,8 @@ room-small l n = by-header (badHeader l)
 pub front-length : {A : Type 0} (n : ℕ) (o : A) → n ≤ 4096 → n ≡ length (take n (replicate 4096 o))
 front-length n o h = sym (length-take-le n (replicate 4096 o) (rw (length-replicate 4096 o) h))
 
-pub alike : (n : ℕ) (held : List ℕ) → n ≤ 4096 → n ≤ length held
-    → Alike (length (take n (replicate 4096 (pos 0)))) (length {A = ℕ} (take n (replicate 4096 0))) (length (take n (replicate 4096 (pos 0)))) (length (take n held))
-alike n held p q =
-    let f : n ≡ length (take n (replicate 4096 (pos 0))) = front-length n (pos 0) p in
-    record { mask = sym (front-length {A = ℕ} n 0 p) ∙ f; undone = refl; shown = length-take-le n held q ∙ f }
+pub front-same : {A : Type 0} (n : ℕ) (o : A) (held : List ℕ) → n ≤ 4096 → n ≤ length held → length (take n (replicate 4096 o)) ≡ length (take n held)
+front-same n o held p q = sym (front-length n o p) ∙ sym (length-take-le n held q)
 
 -- ---- the samples in front of what the lent buffer held
 pub in-front : (l held : List ℕ) {part : List ℕ} {n : ℕ} → n ≡ roomFor l (length held) → n ≤ length held → part ≡ samplesAfter l (take n held) → part ++ drop n held ≡ shownAfter l held

@@ -1,4 +1,4 @@
--- `showing::room` tells the room that a stream has. Assumes nothing.
+-- `showing_limited::room` tells the room that a stream has. Assumes nothing.
 use mathlib.Core.Path.{_≡_, sym, _∙_}
 use mathlib.Core.Bool.{false}
 use mathlib.Core.List.{List}
@@ -7,9 +7,9 @@ use native.Mathlib.Omega.{arith}
 use borrow.Author.Needs.{needs}
 use Rattle.header.specs.Header.{badHeader}
 use Rattle.header.proofs.Parts.{good-long}
-use Rattle.showing.proofs.Rooms.{area-fits, none-for-bad, none-for-wide, none-for-high, none-for-large, room-for}
-use Rattle.showing.proofs.room.Statement.{statement}
-use Rattle.showing.proofs.room.Tie as tie
+use Rattle.showing_limited.proofs.Rooms.{area-fits, none-for-bad, none-for-wide, none-for-high, none-for-large, room-for}
+use Rattle.showing_limited.proofs.room.Statement.{statement}
+use Rattle.showing_limited.proofs.room.Tie as tie
 
 -- the stream, and the length of the lent buffer
 abbrev L : tie.Start → List ℕ

@@ -1,0 +1,2 @@
+-- The laws of the picture at a level.
+pub mod Areas

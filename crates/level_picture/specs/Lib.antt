@@ -1,0 +1,3 @@
+-- What the contracts on showing at a level cite.
+pub mod Level
+pub mod Inner

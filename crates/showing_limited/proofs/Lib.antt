@@ -1,0 +1,3 @@
+-- The proofs on showing streams.
+pub mod Rooms
+pub mod Shows

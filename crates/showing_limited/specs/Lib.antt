@@ -1,0 +1,3 @@
+-- What the contracts on showing streams cite.
+pub mod Showing
+pub mod Inner
