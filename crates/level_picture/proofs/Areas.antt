@@ -2,7 +2,7 @@
 use mathlib.Core.Path.{_≡_, sym, ap, subst, _∙_}
 use mathlib.Core.Bool.{true, false}
 use mathlib.Core.List.{List}
-use Prim.Native.Nat.{ℕ, _*_, _≤_}
+use Prim.Native.Nat.{ℕ, _*_, _-_, _^_, _≤_}
 use native.Mathlib.Nat.{mul-le-mul}
 use native.Mathlib.Omega.{arith}
 use mir.Syntax.{w64}
@@ -14,11 +14,14 @@ use Rattle.kernel.specs.declared.Kernel.{Kernel}
 use Rattle.kernel.specs.Kernels.{theKernel}
 use Rattle.grid.specs.Picture.{side}
 use Rattle.grid.proofs.Levels.{side-le, side-some}
-use Rattle.refusal.specs.Tests.{badLength}
+use Rattle.plane.specs.Inner.{Below}
+use Rattle.plane.proofs.Bounds.{below-part}
+use Rattle.refusal.specs.Tests.{badLength, badMagnitude}
 use Rattle.refusal.specs.Results.{Result}
-use Rattle.refusal.proofs.Passed.{neither}
+use Rattle.refusal.proofs.Passed.{neither, magnitudes}
 use Rattle.wavelet.specs.Walks.{Levels}
-use Rattle.wavelet.proofs.Entries.{area-levels}
+use Rattle.wavelet.specs.Wavelet.{coefficientsOf}
+use Rattle.wavelet.proofs.Entries.{area-levels, plane-below}
 use Rattle.samples.specs.Samples.{inRange}
 use Rattle.level_picture.specs.Level.{levelNumber, levelSample, badArea}
 use Rattle.level_picture.specs.Inner.{levelAt, Lent}
@@ -35,6 +38,10 @@ good-area r W H n s e =
 pub lent-levels : {J r D W H m n s k : ℕ} → Lent J r D W H m n s → k ≤ 5 → Levels W (side r W) (side r H) k m
 lent-levels {J} {r} {D} {W} {H} z few = area-levels few (record { width = (z .some-w, z .w-most); height = (z .some-h, z .h-most) })
     (side-some r W (z .some-w)) (side-le r W) (side-some r H (z .some-h)) (side-le r H) (z .plane)
+
+-- the area of an accepted plane
+pub area-below : (r W H : ℕ) (l : List ℤ) → length l ≡ W * H → badMagnitude l ≡ false → Below (2 ^ 22 - 1) (side r W) (side r H) (coefficientsOf W l)
+area-below r W H l full small = below-part (side r W) (side r H) (plane-below W H l full (magnitudes l small)) (side-le r W) (side-le r H)
 
 -- ---- what is shown
 -- numbers, brought into range

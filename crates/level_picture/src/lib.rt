@@ -4,6 +4,7 @@ ghost use mathlib.Core.Bool.{true};
 ghost use Prim.Native.Nat.{_-_, _^_, _≤_};
 ghost use lib.IntN.{pos};
 ghost use lib.ListN.{length};
+ghost use Rattle.grid.specs.Picture.{side};
 ghost use Rattle.plane.specs.Inner.{Below};
 ghost use Rattle.refusal.specs.Numbers.{answerNumber, first, accepted};
 ghost use Rattle.refusal.specs.Results.{Result};
@@ -70,7 +71,7 @@ pub fn bad_area(r: usize, w: usize, h: usize, undone: usize, shown: usize) -> bo
     (undone != count) | (shown != count)
 }
 
-// The picture at level r of an accepted plane, in lent buffers as long as the area. Nothing outside the area is read.
+// The picture at level r of a plane whose area holds accepted coefficients, in lent buffers as long as the area. Nothing outside it is read.
 pub fn show_area(
     kernel: Kernel,
     levels: usize,
@@ -83,7 +84,7 @@ pub fn show_area(
     shown: &mut [u16],
 )
     requires { ⌜ Lent levels r depth w h (length (now plane)) (length (now undone)) (length (now shown)) ⌝ }
-    requires { ⌜ Below (2 ^ 22 - 1) w h (coefficientsOf w (now plane)) ⌝ }
+    requires { ⌜ Below (2 ^ 22 - 1) (side r w) (side r h) (coefficientsOf w (now plane)) ⌝ }
     ensures { λ _. ⌜ Result (pos 0) true (levelAt kernel levels r w h (now (plane .entry))) (now (undone .entry)) (now (undone .exit)) ⌝ }
     ensures { λ _. ⌜ Result 0 true (λ i. inRange depth (levelAt kernel levels r w h (now (plane .entry)) i)) (now (shown .entry)) (now (shown .exit)) ⌝ }
 {

@@ -7,6 +7,7 @@ use lib.Dec.{eqb}
 use lib.IntN.{ℤ, pos}
 use lib.ListN.{length}
 use Rattle.kernel.specs.declared.Kernel.{Kernel}
+use Rattle.grid.specs.Picture.{side}
 use Rattle.plane.specs.Inner.{Below}
 use Rattle.refusal.specs.Numbers.{first}
 use Rattle.refusal.specs.Tests.{badMagnitude}
@@ -14,13 +15,11 @@ use Rattle.refusal.specs.Results.{Result}
 use Rattle.refusal.specs.declared.Refusal.{Refusal}
 use Rattle.refusal.proofs.Named.{named}
 use Rattle.refusal.proofs.Ordered.{here, next}
-use Rattle.refusal.proofs.Passed.{magnitudes}
 use Rattle.wavelet.specs.Wavelet.{coefficientsOf}
-use Rattle.wavelet.proofs.Entries.{plane-below}
 use Rattle.samples.specs.Samples.{inRange}
 use Rattle.level_picture.specs.Level.{badArea}
 use Rattle.level_picture.specs.Inner.{levelAt, Lent}
-use Rattle.level_picture.proofs.Areas.{good-area}
+use Rattle.level_picture.proofs.Areas.{good-area, area-below}
 use Rattle.header.specs.Fields.{shotOf}
 use Rattle.shot.specs.Shots.{shotMask}
 use Rattle.codestream.specs.Stream.{area}
@@ -77,8 +76,8 @@ module _ {l : List ℕ} {k : Kernel} {h : Header} (t : Taken l k h) where
       shown = a .1;
     }
 
-    pub below : Below (2 ^ 22 - 1) (h .width) (h .height) (coefficientsOf (h .width) plane)
-    below = rw (is, t .header) (plane-below (shotOf l .width) (shotOf l .height) (planeOf l) (small .1) (magnitudes (planeOf l) (small .0)))
+    pub below : Below (2 ^ 22 - 1) (side r (h .width)) (side r (h .height)) (coefficientsOf (h .width) plane)
+    below = rw (is, t .header) (area-below r (shotOf l .width) (shotOf l .height) (planeOf l) (small .1) (small .0))
 
   module _ (r : ℕ) {plane : List ℤ} (is : plane ≡ planeOf l) where
     pub numbers-at : {u u′ : List ℤ} → Result (pos 0) true (levelAt k (h .levels) r (h .width) (h .height) plane) u u′ → Result (pos 0) true (levelNumberAt r l) u u′

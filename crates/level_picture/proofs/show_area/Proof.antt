@@ -2,9 +2,6 @@
 use mathlib.Core.Path.{sym, _∙_}
 use borrow.Author.Needs.{needs}
 use native.Mathlib.Omega.{arith}
-use Rattle.grid.specs.Picture.{side}
-use Rattle.grid.proofs.Levels.{side-le}
-use Rattle.plane.proofs.Bounds.{below-part}
 use Rattle.level_picture.proofs.Areas.{lent-levels, range-of}
 use Rattle.level_picture.proofs.show_area.Statement.{statement}
 use Rattle.level_picture.proofs.show_area.Tie as tie
@@ -15,8 +12,8 @@ show-area-spec =
     (λ c κs. search needs)
     (λ c κs. search needs)
     (λ c. search needs)
-    (λ c κs. let s = c .before .before .before .before in let a = s .args in let z = s .pre .0 in rw (c .before .before .level-side .ensures, c .before .level-side2 .ensures)
-    (lent-levels z (omega (arith, z .few)), (z .undone, below-part (side (a .r) (a .w)) (side (a .r) (a .h)) (s .pre .1) (side-le (a .r) (a .w)) (side-le (a .r) (a .h)))))
+    (λ c κs. let s = c .before .before .before .before in let z = s .pre .0 in rw (c .before .before .level-side .ensures, c .before .level-side2 .ensures)
+    (lent-levels z (omega (arith, z .few)), (z .undone, s .pre .1)))
     (λ c κs. search needs)
     (λ c. search needs)
     (λ c. search needs)

@@ -8,9 +8,8 @@ use lib.Dec.{leb}
 use Rattle.kernel.specs.Kernels.{theKernel}
 use Rattle.kernel.proofs.Numbers as numbers
 use Rattle.refusal.proofs.Ordered.{ordered, refused-both, done-both}
-use Rattle.refusal.proofs.Passed.{inside, sides, area, magnitudes}
-use Rattle.wavelet.proofs.Entries.{plane-below}
-use Rattle.level_picture.proofs.Areas.{good-area, numbers-of, samples-of}
+use Rattle.refusal.proofs.Passed.{inside, sides, area}
+use Rattle.level_picture.proofs.Areas.{good-area, area-below, numbers-of, samples-of}
 use Rattle.level_picture.proofs.show_level.Statement.{statement}
 use Rattle.level_picture.proofs.show_level.Tie as tie
 
@@ -41,7 +40,7 @@ show-level-spec =
     (λ c. let k = known (c .before .before .before .before .before .before .before .before .before .before .before .before .before) .0 in refused-both _ (search ordered depth 20 fits 3000))
     (λ c κs. let a = c .before .before .before .before .before .before .before .before .before .before .before .before .before .before .before .before .before .before .before .before .args in let m = sides _ _ (sym (c .before .before .before .before .before .before .before .before .bad-size .ensures) ∙ c .before .before .before .before .before .before .before .if4 .left) in let lent = good-area (a .r) (a .w) (a .h) _ _ (sym (c .before .before .before .before .before .bad-area .ensures) ∙ c .before .before .before .before .if6 .left) in (
       record { few = inside 1 5 (a .levels) (sym (c .before .before .before .before .before .before .before .before .before .before .before .before .before .before .bad-levels .ensures) ∙ c .before .before .before .before .before .before .before .before .before .before .before .before .before .if1 .left) .1; level = ltb-false (a .levels) (a .r) (sym (c .before .before .before .before .before .before .before .before .before .before .before .before .bad-level .ensures) ∙ c .before .before .before .before .before .before .before .before .before .before .before .if2 .left); depth = inside 1 10 _ (sym (c .before .before .before .before .before .before .before .before .before .before .bad-depth .ensures) ∙ c .before .before .before .before .before .before .before .before .before .if3 .left) .1; some-w = m .width .0; some-h = m .height .0; w-most = m .width .1; h-most = m .height .1; plane = c .before .before .before .before .before .before .if5 .left; undone = lent .0; shown = lent .1 },
-      plane-below (a .w) (a .h) (a .plane .now) (c .before .before .before .before .before .before .if5 .left) (magnitudes _ (sym (c .before .before .before .bad-magnitude .ensures) ∙ c .before .before .if7 .left)),
+      area-below (a .r) (a .w) (a .h) (a .plane .now) (c .before .before .before .before .before .before .if5 .left) (sym (c .before .before .before .bad-magnitude .ensures) ∙ c .before .before .if7 .left),
     ))
     (λ c. search needs)
     (λ c. search needs)
