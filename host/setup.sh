@@ -1,11 +1,11 @@
 #!/bin/sh
-# Installs the Debian packages that the host side is built from and tested with, where any is missing; does nothing where
-# all are there.
+# Installs the Debian packages that the host side is built from and tested with, and those that are named as arguments,
+# where any is missing; does nothing where all are there.
 set -eu
 
 missing=
 for package in librust-clap-dev librust-png-dev librust-tempfile-dev librust-ctrlc-dev librust-serde-json-dev \
-    librust-same-file-dev g++ man-db pkg-config; do
+    librust-same-file-dev g++ man-db pkg-config "$@"; do
     state=$(dpkg-query --show --showformat='${db:Status-Status}' "$package" 2>/dev/null || true)
     [ "$state" = installed ] || missing="$missing $package"
 done

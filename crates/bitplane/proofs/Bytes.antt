@@ -4,10 +4,12 @@ use mathlib.Core.List.{List, [], _∷_, _++_}
 use mathlib.Core.Bool.{Bool, true, false}
 use Prim.Native.Nat.{ℕ, zero, suc, _+_, _*_, _-_, _/_, _%_, _^_, _<_}
 use native.Mathlib.Omega.{arith}
-use native.Mathlib.Nat.{pow-succ', div-div-eq-div-mul, div-one}
+use native.Mathlib.Nat.{add-suc, mul-assoc, pow-suc, pow-succ', div-div-eq-div-mul, div-one}
 use lib.IntN.{ℤ, pos, negsuc, natAbs}
 use lib.ListN.{length, getD}
+use lib.Pow.{high, low}
 use Rattle.line.specs.Cells.{choose}
+use Rattle.line.proofs.Cells.{by-lt}
 use Rattle.bitplane.specs.Bits.{bitOf, bitAt, gathered, byteAt, bytes, sign}
 use Rattle.bitplane.specs.Body.{Pass, Order, signAfter, code, passBits, body}
 use Rattle.bitplane.proofs.Passes.{Carries, halved}
@@ -21,6 +23,35 @@ gathered-bit b p (suc n) k (suc e) s h =
     let g : (gathered b p n * 2 + b (p + n)) / 2 ≡ gathered b p n = omega (arith, s (p + n)) in
     rw (pow-succ' 2 e, ← div-div-eq-div-mul (gathered b p n * 2 + b (p + n)) 2 (2 ^ e), g) (gathered-bit b p n k e s (omega arith))
 
+-- ---- parts of what is gathered
+pub gathered-small : (b : ℕ → ℕ) (p n : ℕ) → ((i : ℕ) → b i < 2) → gathered b p n < 2 ^ n
+unfolding gathered
+gathered-small b p zero s = omega arith
+gathered-small b p (suc n) s = omega (arith, pow-suc 2 n, gathered-small b p n s, s (p + n))
+
+pub gathered-append : (b : ℕ → ℕ) (p m n : ℕ) → gathered b p (m + n) ≡ gathered b p m * 2 ^ n + gathered b (p + m) n
+unfolding gathered
+gathered-append b p m zero = let e : m + 0 ≡ m = omega arith in rw e (omega arith)
+gathered-append b p m (suc n) =
+    let e : p + (m + n) ≡ p + m + n = omega arith in
+    rw (add-suc m n, gathered-append b p m n, e, pow-suc 2 n, ← mul-assoc (gathered b p m) (2 ^ n) 2) (omega arith)
+
+-- n of them, o behind the first, with z behind them
+pub gathered-part : (b : ℕ → ℕ) (p o n z w : ℕ) → ((i : ℕ) → b i < 2) → o + n + z ≡ w → gathered b p w / 2 ^ z % 2 ^ n ≡ gathered b (p + o) n
+gathered-part b p o n z w s e = rw (
+  ← e,
+  gathered-append b p (o + n) z,
+  high (gathered b p (o + n)) z (gathered-small b (p + (o + n)) z s),
+  gathered-append b p o n,
+) (low (gathered b p o) n (gathered-small b (p + o) n s))
+
+pub gathered-none : (b : ℕ → ℕ) (p n : ℕ) → gathered b p n ≡ 0 → (k : ℕ) → k < n → b (p + k) ≡ 0
+unfolding gathered
+gathered-none b p zero e k h = absurd (omega arith)
+gathered-none b p (suc n) e k h = by-lt k n
+    (gathered-none b p n (omega arith) k)
+    (λ ge. let d : k ≡ n = omega arith in rw d (omega arith))
+
 -- a byte is gathered from its bits
 byte-gathered : (b : ℕ → ℕ) (p x n e : ℕ) → x < 256 → e + n ≡ 8 → ((k : ℕ) → k < n → b (p + k) ≡ bitOf (7 - k) x) → gathered b p n ≡ x / 2 ^ e
 unfolding gathered
@@ -28,6 +59,13 @@ byte-gathered b p x zero e s h f = let d : e ≡ 8 = omega arith in rw d (omega 
 byte-gathered b p x (suc n) e s h f =
     let d : 7 - n ≡ e = omega arith in
     rw (byte-gathered b p x n (suc e) s (omega arith) (λ k l. f k (omega arith)), halved e x, f n (omega arith), d) (omega arith)
+
+pub byte-bits : (l : List ℕ) (k : ℕ) → getD l k 0 < 256 → gathered (bitAt l) (8 * k) 8 ≡ getD l k 0
+unfolding bitAt
+byte-bits l k h =
+    byte-gathered (bitAt l) (8 * k) (getD l k 0) 8 0 h refl
+    (λ i g. let d : (8 * k + i) / 8 ≡ k = omega arith in let e : (8 * k + i) % 8 ≡ i = omega arith in rw (d, e))
+    ∙ div-one (getD l k 0)
 
 -- ---- bits are 0 and 1
 abbrev pub Binary : List ℕ → Type 0
@@ -74,12 +112,12 @@ sign-after-binary zero s h = binary-none
 sign-after-binary (suc zero) s h = binary-cons s [] h binary-none
 sign-after-binary (suc (suc k)) s h = binary-none
 
-code-binary : (c : Bool) (t : ℕ) (z : ℤ) → Binary (choose c (code t z) [])
+pub code-binary : (c : Bool) (t : ℕ) (z : ℤ) → Binary (choose c (code t z) [])
 unfolding code
 code-binary true t z = binary-cons (bitOf t (natAbs z)) (signAfter (natAbs z / 2 ^ t) (sign z)) (omega arith) (sign-after-binary (natAbs z / 2 ^ t) (sign z) (sign-binary z))
 code-binary false t z = binary-none
 
-pass-binary : (x : Pass) (Z : ℕ → ℤ) (n : ℕ) → Binary (passBits x Z n)
+pub pass-binary : (x : Pass) (Z : ℕ → ℤ) (n : ℕ) → Binary (passBits x Z n)
 unfolding passBits
 pass-binary x Z zero = binary-none
 pass-binary x Z (suc n) = binary-append (passBits x Z n) (choose (x .on n) (code (x .plane) (Z n)) []) (pass-binary x Z n) (code-binary (x .on n) (x .plane) (Z n))

@@ -4,9 +4,10 @@ use mathlib.Core.Bool.{Bool, true, false, not}
 use mathlib.Core.List.{List, [], _∷_}
 use Prim.Native.Nat.{ℕ, zero, suc, _-_, _<_, _≤_}
 use native.Mathlib.Omega.{arith}
+use lib.Dec.{eqb}
 use lib.ListN.{length, getD, List·getD-eq-default}
 use borrow.Author.Tests.{eq-eqb, ne-eqb, eqb-true}
-use Rattle.line.proofs.Cells.{by-lt}
+use Rattle.line.proofs.Cells.{by-lt, never}
 use Rattle.bitplane.specs.Body.{class, onePlane, planes}
 
 -- inside a list the default does not matter
@@ -24,9 +25,16 @@ module _ (mask : List ℕ) (c i : ℕ) where
   unfolding class
   class-off h n = ne-eqb _ _ (λ e. n (inside mask i 0 2 h ∙ e))
 
+  pub class-test : i < length mask → eqb (getD mask i 0) c ≡ class mask c i
+  unfolding class
+  class-test h = ap (λ m. eqb m c) (inside mask i 0 2 h)
+
 pub class-past : (mask : List ℕ) (c i : ℕ) → c < 2 → length mask ≤ i → class mask c i ≡ false
 unfolding class
 class-past mask c i h g = rw (List·getD-eq-default mask 2 g) (ne-eqb 2 c (λ e. omega arith))
+
+pub class-in : (mask : List ℕ) (c i : ℕ) → c < 2 → class mask c i ≡ true → i < length mask
+class-in mask c i h o = by-lt i (length mask) (λ lt. lt) (λ ge. absurd (never o (class-past mask c i h ge)))
 
 pub classes-apart : (mask : List ℕ) (i : ℕ) → getD mask i 2 < 2 → class mask 0 i ≡ not (class mask 1 i)
 unfolding class

@@ -46,7 +46,7 @@ module _ (h : Received) (n : ℕ) (on : ℕ → Bool) (none : (i : ℕ) → on i
 
 -- ---- nothing is written
 module _ (Z : ℕ → ℤ) (on : ℕ → Bool) where
-  bits-none : (t n : ℕ) → ((i : ℕ) → i < n → on i ≡ false) → passBits (onePlane on t) Z n ≡ []
+  pub bits-none : (t n : ℕ) → ((i : ℕ) → i < n → on i ≡ false) → passBits (onePlane on t) Z n ≡ []
   unfolding passBits
   bits-none t zero none = refl
   bits-none t (suc n) none = rw (none n (omega arith), bits-none t n (λ i h. none i (omega arith)))

@@ -34,6 +34,12 @@ used-some (pos zero) b = omega arith
 used-some (pos (suc m)) b = omega arith
 used-some (negsuc m) b = omega arith
 
+pub used-most : (v : ℤ) (b : ℕ) → b < 2 → used v b ≤ 2
+unfolding used
+used-most (pos zero) b h = omega arith
+used-most (pos (suc m)) b h = omega arith
+used-most (negsuc m) b h = omega arith
+
 -- the place never falls back
 module _ (h : Received) where
   pub place-up : (x : Pass) (r : Reading) (i : ℕ) → r .at ≤ place h x r i

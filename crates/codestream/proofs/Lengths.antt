@@ -9,11 +9,12 @@ use lib.IntN.{ℤ, natAbs}
 use lib.ListN.{length, getD}
 use Rattle.kernel.specs.Kernels.{theKernel}
 use Rattle.line.specs.Cells.{count, cell}
+use Rattle.line.proofs.Counts.{count-le}
 use Rattle.bitplane.specs.Inner.{nonzero}
 use Rattle.bitplane.specs.Body.{class}
 use Rattle.bitplane.proofs.Lengths.{class-length}
+use Rattle.refusal.proofs.Passed.{area-most}
 use Rattle.scan.specs.Inner.{signCount}
-use Rattle.scan.proofs.Counting.{count-le}
 use Rattle.scan.proofs.BodyLengths.{whole-length}
 use Rattle.header.specs.Fields.{Shot}
 use Rattle.shot.specs.Shots.{shotMask, marks}
@@ -37,11 +38,11 @@ module _ {s : Shot} {l : List ℤ} (w : Writable s l) where
   body-length = rw (w .planes, ← w .full) (whole-length l (shotMask s) (shot-mask-length s ∙ (rw (w .full))) (omega (arith, plane-small w)) (shot-mask-binary s))
 
   -- ---- no stream is longer than its length field can say
-  pub area-most : area s ≤ 16777216
-  area-most = let p = setting-of w .sides in let h : area s ≤ 4096 * 4096 = mul-le-mul (p .width .1) (p .height .1) in omega arith
+  pub small-area : area s ≤ 16777216
+  small-area = area-most (setting-of w .sides)
 
   pub total-most : totalLength s l < 4294967296
   unfolding signCount
   total-most =
-      let b : s .planes * area s ≤ 22 * 16777216 = mul-le-mul (planes-most w) area-most in
-      omega (arith, body-length, w .full, area-most, count-le (length l) (λ i. ltb 0 (natAbs (cell l i))), rectangles-of w .few)
+      let b : s .planes * area s ≤ 22 * 16777216 = mul-le-mul (planes-most w) small-area in
+      omega (arith, body-length, w .full, small-area, count-le (length l) (λ i. ltb 0 (natAbs (cell l i))), rectangles-of w .few)

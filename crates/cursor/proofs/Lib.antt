@@ -1,3 +1,4 @@
 -- The laws of the cursor.
 pub mod Places
 pub mod Calls
+pub mod Windows

@@ -1,6 +1,9 @@
 // The bit cursor: a lent body and the place of the next bit in it. `bit_at` and `after` do the work on plain values; the functions over the cursor are thin.
+// Beside it the window: 64 bits of a body at once, for blocks of coefficients.
 ghost use mathlib.Core.Path.{_≡_};
-ghost use Rattle.bitplane.specs.Bits.{bitAt};
+ghost use Prim.Native.Nat.{_+_, _-_, _*_, _/_, _%_, _^_, _<_, _≤_};
+ghost use lib.ListN.{length};
+ghost use Rattle.bitplane.specs.Bits.{bitAt, gathered};
 ghost use Rattle.cursor.specs.Cursor.{over, bitHere, placeAfter, moved};
 
 pub struct BitCursor<'a> {
@@ -60,4 +63,39 @@ pub fn next<'a>(c: BitCursor<'a>) -> BitCursor<'a>
         body: c.body,
         at: n,
     }
+}
+
+// A byte as a wider number.
+fn wide(x: u8) -> u64
+    ensures { λ r. ⌜ (r ≡ x) × (r < 256) ⌝ }
+{
+    x as u64
+}
+
+// The bits of the 4 bytes from byte k on as one number, the first its highest digit.
+fn half(body: &[u8], k: usize) -> u64
+    requires { ⌜ k + 4 ≤ length (now body) ⌝ }
+    ensures { λ r. ⌜ r ≡ gathered (bitAt (now (body .entry))) (8 * k) 32 ⌝ }
+{
+    let a = wide(body[k]);
+    let b = wide(body[k + 1]);
+    let c = wide(body[k + 2]);
+    let d = wide(body[k + 3]);
+    ((a * 256 + b) * 256 + c) * 256 + d
+}
+
+// The bits of the 8 bytes from byte k on as one number, the first its highest digit.
+pub fn window(body: &[u8], k: usize) -> u64
+    requires { ⌜ k + 8 ≤ length (now body) ⌝ }
+    ensures { λ r. ⌜ r ≡ gathered (bitAt (now (body .entry))) (8 * k) 64 ⌝ }
+{
+    (half(body, k) << 32) + half(body, k + 4)
+}
+
+// The n bits of a window that stand behind its first o, as a number.
+pub fn digits(window: u64, o: u64, n: u64) -> u64
+    requires { ⌜ (0 < n) × (n < 64) × (o + n ≤ 64) ⌝ }
+    ensures { λ r. ⌜ r ≡ window / 2 ^ (64 - (o + n)) % 2 ^ n ⌝ }
+{
+    (window >> (64 - (o + n))) % (1 << n)
 }

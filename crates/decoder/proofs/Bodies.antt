@@ -16,6 +16,7 @@ use Rattle.bitplane.specs.Reader.{received, read, start, badFilling}
 use Rattle.refusal.specs.Numbers.{first}
 use Rattle.refusal.specs.declared.Refusal.the-variants.{Filling}
 use Rattle.refusal.proofs.Ordered.{none, here, next}
+use Rattle.refusal.proofs.Passed.{sides, area-most}
 use Rattle.region.specs.Drawing.{Filled}
 use Rattle.scan.specs.Inner.{markCount}
 use Rattle.header.specs.Header.{frontLength, badHeader, bodyOf}
@@ -55,6 +56,9 @@ module _ {l : List ℕ} {plane : List ℤ} {mask : List ℕ} {T : ℕ} (k : Mask
 
   pub sizes : length mask ≡ length plane
   sizes = ap length (k .mask-is) ∙ (mask-length _ _ _ _ _ ∙ sym (k .full))
+
+  pub small-area : length plane ≤ 16777216
+  small-area = rw (k .full) (area-most (sides _ _ (k .size)))
 
   pub binary : (i : ℕ) → i < length mask → getD mask i 2 < 2
   binary i h = rw (k .mask-is) (mask-binary _ _ _ _ _ i (omega (arith, sizes, k .full)))

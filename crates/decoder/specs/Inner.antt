@@ -16,6 +16,7 @@ use lib.ListN.{length}
 use Rattle.kernel.specs.declared.Kernel.{Kernel}
 use Rattle.kernel.specs.Kernels.{theKernel}
 use Rattle.refusal.specs.Numbers.{first}
+use Rattle.refusal.specs.Tests.{badSize}
 use Rattle.refusal.specs.declared.Refusal.{Refusal}
 use Rattle.header.specs.Header.{badHeader, badVersion}
 use Rattle.header.specs.Fields.{shotOf}
@@ -42,6 +43,7 @@ pub record Masked (l : List ℕ) (plane : List ℤ) (mask : List ℕ) (T : ℕ) 
   pub version : badVersion l ≡ false
   pub planes : T ≡ shotOf l .planes
   pub few : badPlanes T ≡ false
+  pub size : badSize (shotOf l .width) (shotOf l .height) ≡ false
   pub full : length plane ≡ area (shotOf l)
   pub mask-is : mask ≡ shotMask (shotOf l)
 

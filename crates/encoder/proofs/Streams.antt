@@ -10,12 +10,12 @@ use lib.ListN.{length, take, drop, length-append, length-drop}
 use lib.Seq.{ext-getD, length-take-le, getD-take, getD-drop}
 use borrow.Rule.Slice.PartMut.{midOf, putMid, post-is, mid-len}
 use Rattle.line.specs.Cells.{cell}
+use Rattle.line.proofs.Counts.{count-le}
 use Rattle.line.proofs.Lists.{is-listed}
 use Rattle.bitplane.specs.Bits.{byteAt, bytes}
 use Rattle.bitplane.specs.Body.{class, planes, body}
 use Rattle.scan.specs.Inner.{signCount, markCount}
 use Rattle.scan.specs.Scan.{digits}
-use Rattle.scan.proofs.Counting.{count-le}
 use Rattle.header.specs.Fields.{Shot, header}
 use Rattle.header.specs.Writing.{Fit, Headed}
 use Rattle.header.proofs.Writing.{header-size}
@@ -23,7 +23,7 @@ use Rattle.writer.specs.Written.{part, BodyReady, BodyWritten}
 use Rattle.shot.specs.Shots.{shotMask, marks}
 use Rattle.codestream.specs.Stream.{area, front, unmarkedPasses, markedPart, bodyBits, packed, totalLength, stream}
 use Rattle.codestream.proofs.Accepted.{Writable, rectangles-of, planes-most}
-use Rattle.codestream.proofs.Lengths.{shot-mask-length, shot-mask-binary, body-length, area-most, total-most}
+use Rattle.codestream.proofs.Lengths.{shot-mask-length, shot-mask-binary, body-length, small-area, total-most}
 use Rattle.codestream.proofs.Headers.{held}
 use Rattle.encoder.specs.Inner.{Masked}
 
@@ -50,8 +50,8 @@ module _ {s : Shot} {l : List ℤ} {m : List ℕ} {big signs T many : ℕ} (k : 
   pub bits-most : T * length l + signs ≤ 23 * 16777216
   unfolding signCount
   bits-most =
-      let b : T * length l ≤ 22 * 16777216 = rw (planes-found, k .full) (mul-le-mul (planes-most writable) (area-most writable)) in
-      omega (arith, k .signs-are, k .full, area-most writable, count-le (length l) (λ i. ltb 0 (natAbs (cell l i))))
+      let b : T * length l ≤ 22 * 16777216 = rw (planes-found, k .full) (mul-le-mul (planes-most writable) (small-area writable)) in
+      omega (arith, k .signs-are, k .full, small-area writable, count-le (length l) (λ i. ltb 0 (natAbs (cell l i))))
 
   pub total-found : front s + (T * length l + signs + 7) / 8 ≡ totalLength s l
   total-found = rw (planes-found, k .full, k .signs-are, body-length writable) refl
@@ -92,6 +92,7 @@ module _ {s : Shot} {l : List ℤ} {m : List ℕ} {big signs T many : ℕ} (k : 
         few = omega (arith, planes-found, planes-most writable);
         over = ap length (k .mask) ∙ shot-mask-length s ∙ sym (k .full);
         counted = counted;
+        size = omega (arith, k .full, small-area writable);
         binary = rw (k .mask) (shot-mask-binary s);
         room = rw (part-is 1, part-is 0) (record { fits = omega arith; small = omega (arith, total-most writable) });
       }

@@ -2,16 +2,15 @@
 use mathlib.Core.Path.{_≡_}
 use mathlib.Core.List.{List, [], _∷_, _++_}
 use Prim.Native.Nat.{ℕ, zero, suc, _+_, _*_, _/_, _%_, _^_, _<_}
-use native.Mathlib.Nat.{pow-suc}
 use native.Mathlib.Omega.{arith}
 use lib.IntN.{ℤ}
 use lib.ListN.{length, getD, List·getD-eq-default}
 use Rattle.line.specs.Cells.{cell}
 use Rattle.line.proofs.Cells.{by-lt}
 use Rattle.line.proofs.Lists.{listed-length, listed-cell}
-use Rattle.bitplane.specs.Bits.{gathered, byteAt, bytes}
+use Rattle.bitplane.specs.Bits.{byteAt, bytes}
 use Rattle.bitplane.specs.Body.{body}
-use Rattle.bitplane.proofs.Bytes.{Binary, binary-append, body-binary}
+use Rattle.bitplane.proofs.Bytes.{Binary, gathered-small, binary-append, body-binary}
 use Rattle.header.specs.Fields.{bytesOf, Field, laid, Shot, fixedFields, rectangleFields, header}
 use Rattle.codestream.specs.Stream.{area, markedPasses, unmarkedPasses, markedPart, bodyBits, packed, totalLength, stream}
 use Rattle.codestream.specs.Cutting.{Bytes}
@@ -39,11 +38,6 @@ laid-bytes [] = bytes-none
 laid-bytes (f ∷ fs) = bytes-append (bytesOf (f .size) (f .value)) (laid fs) (number-bytes (f .size) (f .value)) (laid-bytes fs)
 
 -- ---- the body's bits, eight a byte
-gathered-small : (b : ℕ → ℕ) (p n : ℕ) → ((i : ℕ) → b i < 2) → gathered b p n < 2 ^ n
-unfolding gathered
-gathered-small b p zero s = omega arith
-gathered-small b p (suc n) s = omega (arith, pow-suc 2 n, gathered-small b p n s, s (p + n))
-
 packed-bytes : (l : List ℕ) → Binary l → Bytes (packed l)
 packed-bytes l s i = by-lt i (bytes (length l))
     (λ lt. rw (listed-cell {A = ℕ} (bytes (length l)) (byteAt l) 0 i lt) (gathered-small (λ i. getD l i 0) (8 * i) 8 s))

@@ -1,5 +1,6 @@
 -- The laws and theorems of lines.
 pub mod Cells
+pub mod Counts
 pub mod Lists
 pub mod Border
 pub mod Marks

@@ -19,8 +19,8 @@ use Rattle.reader.proofs.Passes.{stopped-near}
 use Rattle.reader.proofs.Planes.{planes-from}
 
 -- coefficients that are 0 leave room
-pub spare-zero : {on : ℕ → Bool} {Y : ℕ → ℤ} (top : ℕ) → top ≤ 22 → ((i : ℕ) → on i ≡ true → Y i ≡ pos 0) → Spare on top Y
-spare-zero top h z = record { each = λ i o. rw (z i o) (omega (arith, pow-mono h)) }
+pub spare-zero : {on : ℕ → Bool} {Y : ℕ → ℤ} (top : ℕ) → top ≤ 22 → ((i : ℕ) → on i ≡ true → Y i ≡ pos 0) → Spare on top Y 0
+spare-zero top h z = record { each = λ i g o. rw (z i o) (omega (arith, pow-mono h)) }
 
 -- l₀ is the plane cleared, and l₁ with the marked part read
 module _ (src mask : List ℕ) (top n : ℕ) (l₀ l₁ : List ℤ) {m k : ℕ} (size : length l₀ ≡ n) (zero : (i : ℕ) → cell l₀ i ≡ pos 0)

@@ -1,6 +1,6 @@
 -- The laws of the reader.
-pub mod Coefficients
 pub mod Passes
+pub mod Blocks
 pub mod Planes
 pub mod Bodies
 pub mod Filling

@@ -1,4 +1,4 @@
--- What the loop over the planes of a class keeps, and what a class without a member gives. Assumes nothing.
+-- What the loop over the planes of a class keeps, and what a class gives that is not read. Assumes nothing.
 use mathlib.Core.Path.{_≡_, refl, sym, ap, _∙_}
 use mathlib.Core.Bool.{Bool, false}
 use mathlib.Core.List.{List}
@@ -38,8 +38,8 @@ half : (t : ℕ) → 0 < t → 2 ^ t ≡ 2 ^ (t - 1) + 2 ^ (t - 1)
 half zero h = absurd (omega arith)
 half (suc t) h = let e : suc t - 1 ≡ t = omega arith in rw (e, two-pow-succ)
 
-pub spare-less : {on : ℕ → Bool} {t : ℕ} {Y : ℕ → ℤ} → 0 < t → Spare on t Y → Spare on (t - 1) Y
-spare-less {t = t} h s = record { each = λ i o. omega (arith, s .each i o, half t h) }
+pub spare-less : {on : ℕ → Bool} {t : ℕ} {Y : ℕ → ℤ} → 0 < t → Spare on t Y 0 → Spare on (t - 1) Y 0
+spare-less {t = t} h s = record { each = λ i g o. omega (arith, s .each i g o, half t h) }
 
 module _ (src : List ℕ) (on : ℕ → Bool) (n : ℕ) where
   abbrev H : Received
@@ -55,9 +55,9 @@ module _ (src : List ℕ) (on : ℕ → Bool) (n : ℕ) where
   missing-step t r h = rw (planes-step on t h)
 
   module _ (l : List ℤ) {t q q′ : ℕ} {l′ : List ℤ} (h : 0 < t) (p : PassRead H n (onePlane on (t - 1)) (reading l q) l′ q′) where
-    spare-pass : Spare on t (cell l) → Spare on (t - 1) (cell l′)
+    spare-pass : Spare on t (cell l) 0 → Spare on (t - 1) (cell l′) 0
     spare-pass s = record {
-      each = λ i o. omega (arith, s .each i o, half t h, ap natAbs (p .value i), pass-size H (bytes-binary src) n (onePlane on (t - 1)) (reading l q) i);
+      each = λ i g o. omega (arith, s .each i g o, half t h, ap natAbs (p .value i), pass-size H (bytes-binary src) n (onePlane on (t - 1)) (reading l q) i);
     }
 
     -- a plane that was wholly received, and one that was not
@@ -92,10 +92,10 @@ module _ (src : List ℕ) (on : ℕ → Bool) (n : ℕ) where
     pub less : t ≤ top
     pub size : length l ≡ n
     pub near : q ≤ suc (8 * length src)
-    pub spare : Spare on t (cell l)
+    pub spare : Spare on t (cell l) 0
     pub then : (m : List ℤ) (r k : ℕ) → PlanesRead H n (planes on t) (reading l q) m r k → PlanesRead H n (planes on top) (reading l₀ p) m r k
 
-  pub left-start : {l₀ : List ℤ} {top p : ℕ} → length l₀ ≡ n → p ≤ suc (8 * length src) → Spare on top (cell l₀) → Left top l₀ p top l₀ p
+  pub left-start : {l₀ : List ℤ} {top p : ℕ} → length l₀ ≡ n → p ≤ suc (8 * length src) → Spare on top (cell l₀) 0 → Left top l₀ p top l₀ p
   left-start e h s = record { less = omega arith; size = e; near = h; spare = s; then = λ m r k y. y }
 
   module _ {top p t q q′ : ℕ} {l₀ l l′ : List ℤ} (h : 0 < t) (s : Left top l₀ p t l q) (passed : PassRead H (length l) (onePlane on (t - 1)) (reading l q) l′ q′) where
@@ -117,14 +117,17 @@ module _ (src : List ℕ) (on : ℕ → Bool) (n : ℕ) where
   pub left-done : {top p t q : ℕ} {l₀ l : List ℤ} → t ≤ 0 → Left top l₀ p t l q → PlanesRead H n (planes on top) (reading l₀ p) l q 0
   left-done {q = q} {l = l} h s = s .then l q 0 (planes-none h (s .near))
 
-  -- ---- a class without a member
-  module _ (none : (i : ℕ) → on i ≡ false) (l : List ℤ) (top : ℕ) {p : ℕ} (near : p ≤ suc (8 * length src)) where
-    unread : (k : ℕ) → k ≡ choose (leb p (H .size)) 0 top → PlanesRead H n (planes on top) (reading l p) l p k
-    unread k e = let d = read-none H n on none top (reading l p) in
-        record { value = λ i. rw d refl; at = rw d (sym (stopped-here H near)); missing = e ∙ sym (missing-none H n on none top (reading l p)) }
-
-    pub unread-in : p ≤ 8 * length src → PlanesRead H n (planes on top) (reading l p) l p 0
-    unread-in g = unread 0 (rw (le-leb p (H .size) g))
+  -- ---- a class without a member, and one for which no bit is left
+  module _ (l : List ℤ) (top : ℕ) {p : ℕ} (near : p ≤ suc (8 * length src)) where
+    pub unread-none : ((i : ℕ) → on i ≡ false) → p ≤ 8 * length src → PlanesRead H n (planes on top) (reading l p) l p 0
+    unread-none none g = let d = read-none H n on none top (reading l p) in
+        record { value = λ i. rw d refl; at = rw d (sym (stopped-here H near)); missing = sym (missing-none H n on none top (reading l p) ∙ rw (le-leb p (H .size) g)) }
 
     pub unread-past : 8 * length src < p → PlanesRead H n (planes on top) (reading l p) l p top
-    unread-past g = unread top (rw (lt-leb p (H .size) g))
+    unread-past g =
+        let r = reading l p in let s = bytes-silent src in
+        record {
+          value = λ i. sym (read-past H s n (planes on top) r i (omega arith));
+          at = sym (stopped-past H {p = read H n (planes on top) r .at} (omega (arith, read-up H n (planes on top) r)) ∙ omega arith);
+          missing = sym (missing-past H s n (planes on top) r g ∙ planes-many on top);
+        }

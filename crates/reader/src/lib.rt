@@ -1,97 +1,168 @@
-// Reads the body of a codestream: bits from bytes, and the passes into a plane.
+// Reads the body of a codestream: the passes into a plane, in blocks of 16 coefficients.
 ghost use mathlib.Core.Path.{_≡_};
-ghost use Prim.Native.Nat.{ℕ, _+_, _*_, _^_, _<_, _≤_};
-ghost use lib.IntN.{pos, natAbs};
+ghost use Prim.Native.Nat.{ℕ, _+_, _*_, _/_, _^_, _<_, _≤_};
+ghost use lib.IntN.{pos};
 ghost use lib.ListN.{length, getD};
 ghost use Rattle.line.specs.Cells.{cell, count};
-ghost use Rattle.bitplane.specs.Bits.{bitAt};
 ghost use Rattle.bitplane.specs.Body.{class, onePlane, planes};
-ghost use Rattle.bitplane.specs.Reader.{received, used, taken, badFilling};
-ghost use Rattle.reader.specs.Reads.{Ready, Spare, reading, PassRead, PlanesRead, BodyRead};
+ghost use Rattle.bitplane.specs.Reader.{received, badFilling};
+ghost use Rattle.members.specs.Index.{Held, Indexed};
+ghost use Rattle.reader.specs.Reads.{Ready, Spare, PartReady, reading, Continues, PassRead, PlanesRead, BodyRead};
 
-// The bit at place p, and 0 past the end.
-fn bit(body: &[u8], p: usize) -> usize
-    ensures { λ r. ⌜ r ≡ bitAt (now (body .entry)) p ⌝ }
+// Reads plane t of the 16 coefficients from i on, from place p on, where 8 bytes are left. Where the next bit of each member is 0 nothing
+// changes.
+fn read_block(
+    body: &[u8],
+    plane: &mut [i32],
+    mask: &[u8],
+    c: u8,
+    t: u64,
+    i: usize,
+    p: usize,
+) -> usize
+    requires { ⌜ (i + 16 ≤ length (now plane)) × (p / 8 + 8 ≤ length (now body)) × PartReady (now body) (now plane) (now mask) c t i p ⌝ }
+    ensures { λ r. ⌜ Continues (now (body .entry)) (onePlane (class (now (mask .entry)) c) t) (now (plane .entry)) p i (now (plane .exit)) r (i + 16) ⌝ }
 {
-    let c = cursor::new(body, p);
-    cursor::bit(c)
-}
-
-// The bit behind place p, and 0 past the end.
-fn bit_behind(body: &[u8], p: usize) -> usize
-    requires { ⌜ p + 1 < 2 ^ 64 ⌝ }
-    ensures { λ r. ⌜ r ≡ bitAt (now (body .entry)) (p + 1) ⌝ }
-{
-    let c = cursor::new(body, p);
-    cursor::bit(cursor::next(c))
-}
-
-// What a bit of plane t counts.
-fn weight(t: u64) -> i32
-    requires { ⌜ t < 30 ⌝ }
-    ensures { λ r. ⌜ r ≡ pos (2 ^ t) ⌝ }
-{
-    let w: u64 = 1 << t;
-    w as i32
-}
-
-// How many bits coefficient v takes, of which b is the first.
-fn width(v: i32, b: usize) -> usize
-    requires { ⌜ b < 2 ⌝ }
-    ensures { λ r. ⌜ r ≡ used v b ⌝ }
-{
-    if v == 0 {
-        return 1 + b;
+    let members = members::among(mask, c, i, 16);
+    if members == 0 {
+        return p;
     }
-    1
+    let x = cursor::window(body, p / 8);
+    if cursor::digits(x, (p % 8) as u64, members as u64) == 0 {
+        return p + members;
+    }
+    let mut pairs = [0u32; 16];
+    let q = coefficient::take(body, plane, mask, c, i, p, &mut pairs);
+    coefficient::grow_all(plane, &pairs, i, t, coefficient::weight(t));
+    q
 }
 
-// Coefficient v after its bits of plane t, which begin with b at place p; step is what a bit of that plane counts.
-fn grow(body: &[u8], p: usize, b: usize, v: i32, t: u64, step: i32) -> i32
-    requires { ⌜ (p + 1 < 2 ^ 64) × (step ≡ pos (2 ^ t)) × (b ≡ bitAt (now body) p) ⌝ }
-    requires { ⌜ natAbs v + 2 ^ t ≤ 1073741824 ⌝ }
-    ensures { λ r. ⌜ r ≡ taken (received (now (body .entry))) t v p ⌝ }
+// The same, one coefficient after the other: the body or the plane may end. At a coefficient for which no bit is left it stops, one place
+// past the end.
+fn read_rest(
+    body: &[u8],
+    plane: &mut [i32],
+    mask: &[u8],
+    c: u8,
+    t: u64,
+    from: usize,
+    p: usize,
+) -> usize
+    requires { ⌜ (from ≤ 16785408) × PartReady (now body) (now plane) (now mask) c t from p ⌝ }
+    ensures { λ r. ⌜ Continues (now (body .entry)) (onePlane (class (now (mask .entry)) c) t) (now (plane .entry)) p from (now (plane .exit)) r (from + 16) ⌝ }
 {
-    if b == 0 {
-        return v;
-    }
-    if v == 0 {
-        let k = (p + 1) / 8;
-        if k >= body.len() {
-            return 0;
-        }
-        if bit_behind(body, p) == 0 {
-            return step;
-        }
-        return 0 - step;
-    }
-    if v < 0 {
-        return v - step;
-    }
-    v + step
-}
-
-// Reads plane t of the coefficients of class c, from place p on. At a coefficient for which no bit is left it stops, one place past the end.
-fn read_pass(body: &[u8], plane: &mut [i32], mask: &[u8], c: u8, t: u64, p: usize) -> usize
-    requires { ⌜ (t < 30) × Ready (now body) (now plane) (now mask) c p ⌝ }
-    requires { ⌜ Spare (class (now mask) c) t (cell (now plane)) ⌝ }
-    ensures { λ r. ⌜ PassRead (received (now (body .entry))) (length (now (plane .entry))) (onePlane (class (now (mask .entry)) c) t) (reading (now (plane .entry)) p) (now (plane .exit)) r ⌝ }
-{
-    let step = weight(t);
+    let step = coefficient::weight(t);
     let end = 8 * body.len();
     let mut q = p;
-    for i in 0..plane.len() {
-        if mask[i] != c {
+    for i in from..from + 16 {
+        if !members::belongs(mask, c, i) {
             continue;
         }
         if q >= end {
             return end + 1;
         }
         let v = plane[i];
-        let b = bit(body, q);
-        let w = grow(body, q, b, v, t, step);
+        let b = coefficient::bit(body, q);
+        let two = coefficient::pair(body, q, b, v);
+        let w = coefficient::grow(v, two, t, step);
         plane[i] = w;
-        q += width(v, b);
+        q += coefficient::width(v, b as u64, 1) as usize;
+    }
+    q
+}
+
+// The same, as a block where one is left.
+fn read_some(
+    body: &[u8],
+    plane: &mut [i32],
+    mask: &[u8],
+    c: u8,
+    t: u64,
+    from: usize,
+    p: usize,
+) -> usize
+    requires { ⌜ (from ≤ 16785408) × PartReady (now body) (now plane) (now mask) c t from p ⌝ }
+    ensures { λ r. ⌜ Continues (now (body .entry)) (onePlane (class (now (mask .entry)) c) t) (now (plane .entry)) p from (now (plane .exit)) r (from + 16) ⌝ }
+{
+    if plane.len() < from + 16 {
+        return read_rest(body, plane, mask, c, t, from, p);
+    }
+    if body.len() < p / 8 + 8 {
+        return read_rest(body, plane, mask, c, t, from, p);
+    }
+    read_block(body, plane, mask, c, t, from, p)
+}
+
+// Reads plane t of the 64 coefficients from `from` on, from place p on.
+fn read_blocks(
+    body: &[u8],
+    plane: &mut [i32],
+    mask: &[u8],
+    c: u8,
+    t: u64,
+    from: usize,
+    p: usize,
+) -> usize
+    requires { ⌜ (from ≤ 16781312) × PartReady (now body) (now plane) (now mask) c t from p ⌝ }
+    ensures { λ r. ⌜ Continues (now (body .entry)) (onePlane (class (now (mask .entry)) c) t) (now (plane .entry)) p from (now (plane .exit)) r (from + 64) ⌝ }
+{
+    let mut q = p;
+    for b in 0..4 {
+        q = read_some(body, plane, mask, c, t, from + 16 * b, q);
+    }
+    q
+}
+
+// Reads plane t of the 4,096 coefficients from `from` on: of each 64 only if their flag in `word` is 1.
+fn read_word(
+    body: &[u8],
+    plane: &mut [i32],
+    mask: &[u8],
+    word: u64,
+    c: u8,
+    t: u64,
+    from: usize,
+    p: usize,
+) -> usize
+    requires { ⌜ (from ≤ 16777216) × PartReady (now body) (now plane) (now mask) c t from p × Held (class (now mask) c) from word ⌝ }
+    ensures { λ r. ⌜ Continues (now (body .entry)) (onePlane (class (now (mask .entry)) c) t) (now (plane .entry)) p from (now (plane .exit)) r (from + 4096) ⌝ }
+{
+    let mut q = p;
+    for j in 0..64 {
+        if (word >> (63 - j)) % 2 == 0 {
+            continue;
+        }
+        q = read_blocks(body, plane, mask, c, t, from + 64 * j, q);
+    }
+    q
+}
+
+// Reads plane t of the coefficients of class c, from place p on, by the flags that say where they lie. Past the end of the body it looks at
+// no more of them.
+fn read_pass(
+    body: &[u8],
+    plane: &mut [i32],
+    mask: &[u8],
+    index: &[u64],
+    c: u8,
+    t: u64,
+    p: usize,
+) -> usize
+    requires { ⌜ PartReady (now body) (now plane) (now mask) c t 0 p × (length (now index) ≡ 4096) × Indexed (class (now mask) c) (now index) ⌝ }
+    ensures { λ r. ⌜ PassRead (received (now (body .entry))) (length (now (plane .entry))) (onePlane (class (now (mask .entry)) c) t) (reading (now (plane .entry)) p) (now (plane .exit)) r ⌝ }
+{
+    let end = 8 * body.len();
+    let words = members::words(plane.len());
+    let mut q = p;
+    for k in 0..words {
+        let word = index[k];
+        if word == 0 {
+            continue;
+        }
+        if end < q {
+            continue;
+        }
+        q = read_word(body, plane, mask, word, c, t, 4096 * k, q);
     }
     q
 }
@@ -112,14 +183,16 @@ pub fn read_planes(
     p: usize,
 ) -> Reached
     requires { ⌜ (top ≤ 29) × Ready (now body) (now plane) (now mask) c p ⌝ }
-    requires { ⌜ Spare (class (now mask) c) top (cell (now plane)) ⌝ }
+    requires { ⌜ Spare (class (now mask) c) top (cell (now plane)) 0 ⌝ }
     ensures { λ r. ⌜ PlanesRead (received (now (body .entry))) (length (now (plane .entry))) (planes (class (now (mask .entry)) c) top) (reading (now (plane .entry)) p) (now (plane .exit)) (r .at) (r .missing) ⌝ }
 {
+    let mut index = [0u64; 4096];
+    members::find(mask, c, &mut index);
     let end = 8 * body.len();
     let mut q = p;
     let mut t = top;
     while t > 0 {
-        let next = read_pass(body, plane, mask, c, t - 1, q);
+        let next = read_pass(body, plane, mask, &index, c, t - 1, q);
         if end < next {
             return Reached {
                 at: next,
@@ -132,7 +205,7 @@ pub fn read_planes(
     Reached { at: q, missing: 0 }
 }
 
-// The same, with no pass over the picture for a class that has no member.
+// The same, with no look at the picture for a class that has no member, or where no bit is left.
 fn read_class(
     body: &[u8],
     plane: &mut [i32],
@@ -143,18 +216,18 @@ fn read_class(
     p: usize,
 ) -> Reached
     requires { ⌜ (top ≤ 29) × Ready (now body) (now plane) (now mask) c p ⌝ }
-    requires { ⌜ Spare (class (now mask) c) top (cell (now plane)) ⌝ }
+    requires { ⌜ Spare (class (now mask) c) top (cell (now plane)) 0 ⌝ }
     requires { ⌜ members ≡ count (length (now mask)) (class (now mask) c) ⌝ }
     ensures { λ r. ⌜ PlanesRead (received (now (body .entry))) (length (now (plane .entry))) (planes (class (now (mask .entry)) c) top) (reading (now (plane .entry)) p) (now (plane .exit)) (r .at) (r .missing) ⌝ }
 {
-    if members > 0 {
-        return read_planes(body, plane, mask, c, top, p);
-    }
     if 8 * body.len() < p {
         return Reached {
             at: p,
             missing: top,
         };
+    }
+    if members > 0 {
+        return read_planes(body, plane, mask, c, top, p);
     }
     Reached { at: p, missing: 0 }
 }
@@ -177,7 +250,7 @@ pub struct BodyEnd {
 
 // Reads a body of top planes: the coefficients that the mask marks, of which there are `marks`, and then the others.
 pub fn read_body(body: &[u8], plane: &mut [i32], mask: &[u8], marks: usize, top: u64) -> BodyEnd
-    requires { ⌜ (top ≤ 22) × (length (now mask) ≡ length (now plane)) × (8 * length (now body) < 2 ^ 62) ⌝ }
+    requires { ⌜ (top ≤ 22) × (length (now mask) ≡ length (now plane)) × (length (now plane) ≤ 16777216) × (8 * length (now body) < 2 ^ 62) ⌝ }
     requires { ⌜ ((i : ℕ) → i < length (now mask) → getD (now mask) i 2 < 2) ⌝ }
     requires { ⌜ marks ≡ count (length (now mask)) (class (now mask) 1) ⌝ }
     ensures { λ r. ⌜ BodyRead (received (now (body .entry))) (length (now (plane .entry))) (planes (class (now (mask .entry)) 1) top) (planes (class (now (mask .entry)) 0) top) (now (plane .exit)) (r .marked) (r .end) (r .missing) ⌝ }
@@ -207,7 +280,7 @@ pub fn bad_filling(body: &[u8], end: usize) -> bool
         return true;
     }
     for k in 0..bits - end {
-        if bit(body, end + k) != 0 {
+        if coefficient::bit(body, end + k) != 0 {
             return true;
         }
     }

@@ -42,8 +42,11 @@ pub record Sides (W H : ℕ) : Type 0 where
 pub sides : (W H : ℕ) → badSize W H ≡ false → Sides W H
 sides W H e = let p = neither (outside 1 4096 W) (outside 1 4096 H) e in record { width = inside 1 4096 W (p .0); height = inside 1 4096 H (p .1) }
 
+pub area-most : {W H : ℕ} → Sides W H → W * H ≤ 16777216
+area-most {W} {H} s = let h : W * H ≤ 4096 * 4096 = mul-le-mul (s .width .1) (s .height .1) in omega arith
+
 pub area : {W H : ℕ} → Sides W H → Fits w64 (W * H)
-area {W} {H} s = let h : W * H ≤ 4096 * 4096 = mul-le-mul (s .width .1) (s .height .1) in omega arith
+area s = omega (arith, area-most s)
 
 -- ---- cells
 pub samples : (D : ℕ) (l : List ℕ) → badSample D l ≡ false → (i : ℕ) → i < length l → getD l i 0 ≤ 2 ^ D - 1

@@ -1,19 +1,9 @@
 -- The laws of counts. Assumes nothing.
 use mathlib.Core.Path.{_≡_, refl}
 use mathlib.Core.Bool.{Bool, true, false, not}
-use Prim.Native.Nat.{ℕ, zero, suc, _+_, _<_, _≤_}
+use Prim.Native.Nat.{ℕ, zero, suc, _+_, _<_}
 use native.Mathlib.Omega.{arith}
 use Rattle.line.specs.Cells.{choose, count}
-
--- a mark counts for 1 at most
-pub one-le : (b : Bool) → choose {A = ℕ} b 1 0 ≤ 1
-one-le true = omega arith
-one-le false = omega arith
-
-pub count-le : (n : ℕ) (B : ℕ → Bool) → count n B ≤ n
-unfolding count
-count-le zero B = omega arith
-count-le (suc n) B = omega (arith, count-le n B, one-le (B n))
 
 -- ---- two classes part the places: of each place one of them is on
 module _ (A B : ℕ → Bool) where

@@ -1,6 +1,5 @@
--- Loops that count, and the loop that finds the largest magnitude, one cell after the other.
+-- The loop that finds the largest magnitude and counts the signs, one cell after the other.
 --
---   Counted f n i c == of n cells the first i are passed, and c of them are marked by f
 --   Scanned l i m s == of a plane the first i coefficients are passed: m is their largest magnitude, and s of them are not 0
 --
 -- Assumes nothing.
@@ -14,28 +13,9 @@ use lib.Dec.{ltb}
 use lib.IntN.{ℤ, pos, natAbs}
 use lib.ListN.{length, take}
 use lib.Seq.{take-suc, take-all}
-use Rattle.line.specs.Cells.{choose, count, cell}
+use Rattle.line.specs.Cells.{choose, cell}
+use Rattle.line.proofs.Counts.{Counted, counted-none, counted-more}
 use Rattle.scan.specs.Scan.{largest}
-use Rattle.scan.proofs.Counting.{one-le, count-le}
-
-pub record Counted (f : ℕ → Bool) (n i c : ℕ) : Type 0 where
-  pub within : i ≤ n
-  pub so-far : c ≡ count i f
-
-pub counted-none : {f : ℕ → Bool} {n : ℕ} → Counted f n 0 0
-unfolding count
-counted-none = record { within = omega arith; so-far = refl }
-
-pub counted-more : {f : ℕ → Bool} {n i c b : ℕ} → Counted f n i c → i < n → b ≡ choose (f i) 1 0 → Counted f n (i + 1) (c + b)
-unfolding count
-counted-more {f} {n} {i} s h e = record { within = omega arith; so-far = rw (add-one i) (ap₂ _+_ (s .so-far) e) }
-
-pub counted-all : {f : ℕ → Bool} {n i c : ℕ} → Counted f n i c → n ≤ i → c ≡ count n f
-counted-all {f} {n} {i} s h = let e : i ≡ n = omega (arith, s .within) in rw e at (s .so-far)
-
--- a fact for `omega`: the next count fits where the next place does
-pub counted-next : {f : ℕ → Bool} {n i c b : ℕ} (t : Bool) → Counted f n i c → b ≡ choose t 1 0 → c + b ≤ i + 1
-counted-next {f} {n} {i} t s e = omega (arith, s .so-far, count-le i f, one-le t)
 
 -- ---- the largest so far
 largest-more : (l : List ℤ) (z : ℤ) → largest (l ++ (z ∷ [])) ≡ max (largest l) (natAbs z)

@@ -2,7 +2,6 @@
 ghost use mathlib.Core.Path.{_≡_};
 ghost use Prim.Native.Nat.{max};
 ghost use lib.IntN.{natAbs};
-ghost use Rattle.line.specs.Cells.{choose};
 ghost use Rattle.scan.specs.Inner.{signCount, markCount};
 ghost use Rattle.scan.specs.Scan as scans;
 
@@ -25,13 +24,6 @@ fn larger(a: u32, b: u32) -> u32
     if a < b { b } else { a }
 }
 
-// 1 for a test that holds, so that a loop can count without a branch.
-fn one(test: bool) -> usize
-    ensures { λ r. ⌜ r ≡ choose test 1 0 ⌝ }
-{
-    test as usize
-}
-
 // The largest magnitude, and how many coefficients are not 0.
 pub fn scan(plane: &[i32]) -> Found
     ensures { λ r. ⌜ r .largest ≡ scans.largest (now (plane .entry)) ⌝ }
@@ -43,7 +35,7 @@ pub fn scan(plane: &[i32]) -> Found
         let c = plane[i];
         let m = size(c);
         largest = larger(largest, m);
-        signs = signs + one(0 < m);
+        signs = signs + line::one(0 < m);
     }
     Found {
         largest: largest,
@@ -57,7 +49,7 @@ pub fn digits(m: u32) -> u64
 {
     let mut n: usize = 0;
     for t in 0..32 {
-        n = n + one(refusal::power(t) <= m as usize);
+        n = n + line::one(refusal::power(t) <= m as usize);
     }
     n as u64
 }
@@ -68,7 +60,7 @@ pub fn mark_count(mask: &[u8]) -> usize
 {
     let mut n: usize = 0;
     for i in 0..mask.len() {
-        n = n + one(mask[i] == 1);
+        n = n + line::one(mask[i] == 1);
     }
     n
 }

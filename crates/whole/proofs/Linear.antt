@@ -221,6 +221,6 @@ pub below-neg : (x : ℤ) → up x < dn x → pos 0 -ℤ x ≡ pos (natAbs x)
 below-neg (pos a) h = absurd (omega arith)
 below-neg (negsuc a) h = ap pos (omega arith)
 
-pub natAbs-fits : (z : ℤ) → SFits w32 z → Fits w64 (natAbs z)
+pub natAbs-fits : (z : ℤ) → SFits w32 z → Fits w32 (natAbs z)
 natAbs-fits (pos n) f = omega (arith, f .sfits)
 natAbs-fits (negsuc n) f = omega (arith, f .sfits)

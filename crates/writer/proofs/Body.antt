@@ -9,7 +9,7 @@ use Rattle.line.specs.Cells.{cell, count}
 use Rattle.bitplane.specs.Body.{class}
 use Rattle.bitplane.proofs.Empty.{body-none, count-none, classes-count}
 use Rattle.bitplane.proofs.Bytes.{bits-hold}
-use Rattle.writer.specs.Written.{Written, Room, Sends, part, BodyReady, BodyWritten}
+use Rattle.writer.specs.Written.{Written, Room, Sends, PassReady, part, BodyReady, BodyWritten}
 use Rattle.writer.proofs.Bits.{written-none}
 use Rattle.writer.proofs.Passes.{sends-none, sends-both}
 
@@ -23,6 +23,9 @@ module _ {mask : List ℕ} {top : ℕ} {plane : List ℤ} {marks : ℕ} {out : L
 
   abbrev unmarked : List ℕ
   unmarked = part mask top plane 0
+
+  pub class-ready : (c : ℕ) → c < 2 → PassReady mask plane c
+  class-ready c h = record { over = b .over; size = b .size; known = h }
 
   -- the coefficients that are not marked
   pub others : marks + count (length mask) (class mask 0) ≡ length plane

@@ -1,6 +1,12 @@
-//! What the benchmark and the comparison share: the picture and the timing.
+//! What the programs of the benchmark and the comparison share: the picture, the
+//! sizes and regions, the calls on streams and the timing.
 
+pub mod size;
+pub mod stream;
 pub mod timing;
+
+/// The bits of a sample.
+pub const DEPTH: usize = 8;
 
 /// A slope with edges and some noise, as a panel has.
 pub fn picture(w: usize, h: usize) -> Vec<u16> {
@@ -17,4 +23,9 @@ pub fn picture(w: usize, h: usize) -> Vec<u16> {
         }
     }
     samples
+}
+
+/// That a call answered 0.
+pub fn accepted(number: u64) {
+    assert_eq!(number, 0, "the arguments are accepted");
 }

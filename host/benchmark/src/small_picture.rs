@@ -1,12 +1,13 @@
 //! The picture at level r of one large plane: its time without that of the tests,
-//! which go over the whole plane at every r. Tried on a small picture by
-//! `cargo test --release -p benchmark -- --nocapture`.
+//! which go over the whole plane at every r.
 
 use std::cell::RefCell;
 
+use benchmark::size::Size;
 use benchmark::timing::best;
+use benchmark::{accepted, DEPTH};
 
-use crate::{accepted, Size, DEPTH, KERNELS};
+use crate::KERNELS;
 
 const LEVELS: usize = 5;
 /// The smallest magnitude that is refused.
@@ -171,16 +172,4 @@ pub fn print(size: Size, samples: &[u16]) {
         print_kernel(kernel, size, samples);
     }
     println!();
-}
-
-#[cfg(test)]
-mod tests {
-    use super::*;
-
-    /// Every answer is compared with the reference's; every level works on odd sides.
-    #[test]
-    fn a_small_size() {
-        let size = Size::new(193, 161);
-        print(size, &benchmark::picture(size.w, size.h));
-    }
 }

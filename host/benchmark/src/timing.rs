@@ -24,23 +24,57 @@ fn turn(work: &mut dyn FnMut()) -> Duration {
     best
 }
 
-/// Runs the pieces of work in turn, round by round, so that a busy spell of the
-/// machine meets all of them, and gives the best time of each.
-pub fn best<const N: usize>(mut works: [&mut dyn FnMut(); N]) -> [f64; N] {
-    let begin = Instant::now();
-    let mut best = [Duration::MAX; N];
-    for rounds in 0..MOST_ROUNDS {
-        if rounds >= LEAST_ROUNDS && begin.elapsed() > ENOUGH {
-            break;
-        }
-        for (work, best) in works.iter_mut().zip(&mut best) {
-            *best = (*best).min(turn(work));
-        }
-    }
-    best.map(|time| time.as_secs_f64() * 1e3)
+/// How many rounds there are.
+#[derive(Clone, Copy)]
+pub struct Rounds {
+    /// At most so many.
+    pub most: usize,
+    /// No further one after this time, the fewest apart.
+    pub enough: Duration,
 }
 
-/// Rounds for the outside program, which counts its own, by the samples.
+impl Rounds {
+    const USUAL: Rounds = Rounds {
+        most: MOST_ROUNDS,
+        enough: ENOUGH,
+    };
+
+    /// For a program that is run several times, in turn with another.
+    pub const SHARED: Rounds = Rounds {
+        most: 10,
+        enough: Duration::from_millis(500),
+    };
+
+    /// For two long times of which the difference is wanted, which may be a
+    /// hundredth of each.
+    pub const DIFFERENCE: Rounds = Rounds {
+        most: 100,
+        enough: Duration::from_millis(10_000),
+    };
+
+    /// Runs the pieces of work in turn, round by round, so that a busy spell of
+    /// the machine meets all of them, and gives the best time of each.
+    pub fn best<const N: usize>(self, mut works: [&mut dyn FnMut(); N]) -> [f64; N] {
+        let begin = Instant::now();
+        let mut best = [Duration::MAX; N];
+        for rounds in 0..self.most {
+            if rounds >= LEAST_ROUNDS && begin.elapsed() > self.enough {
+                break;
+            }
+            for (work, best) in works.iter_mut().zip(&mut best) {
+                *best = (*best).min(turn(work));
+            }
+        }
+        best.map(|time| time.as_secs_f64() * 1e3)
+    }
+}
+
+/// The best times of the usual rounds.
+pub fn best<const N: usize>(works: [&mut dyn FnMut(); N]) -> [f64; N] {
+    Rounds::USUAL.best(works)
+}
+
+/// Rounds for an outside program, which counts its own, by the samples.
 pub fn rounds(samples: usize) -> usize {
     match samples {
         0..=262_144 => MOST_ROUNDS,

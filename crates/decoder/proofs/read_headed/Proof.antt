@@ -66,6 +66,7 @@ read-headed-spec =
       version = known s .version;
       planes = planes s;
       few = ap badPlanes (planes s) ∙ known s .planes;
+      size = known s .setting .size;
       full = c .before .before .before .before .before .before .before .before .before .before .if1 .left ∙ ap₂ (λ (a b : ℕ). a * b) (width s) (height s);
       mask-is = c .before .before .before .before .draw-mask .ensures ∙ mask-drawn (L s) (s .pre) refl;
     })

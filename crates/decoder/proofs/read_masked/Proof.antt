@@ -7,7 +7,7 @@ use borrow.Author.Needs.{needs}
 use Rattle.header.specs.Header.{bodyOf}
 use Rattle.header.proofs.Parts.{good-long, good-front, body-is}
 use Rattle.region.specs.Drawing.{Filled}
-use Rattle.decoder.proofs.Bodies.{body-small, few, sizes, binary, marks-are, end-small, marked-small, found-filling, found-cut, found-whole}
+use Rattle.decoder.proofs.Bodies.{body-small, few, sizes, small-area, binary, marks-are, end-small, marked-small, found-filling, found-cut, found-whole}
 use Rattle.decoder.proofs.read_masked.Statement.{statement}
 use Rattle.decoder.proofs.read_masked.Tie as tie
 
@@ -31,7 +31,7 @@ read-masked-spec =
     (λ c. omega (arith, c .front-length .ensures, good-front (c .before .before .before .args .stream .now) (c .before .before .before .pre .header)))
     (λ c. search needs)
     (λ c κs. search needs)
-    (λ c κs. let k = c .before .before .before .before .before .before .before .before .pre in ((few k, sizes k, small (c .before .before .before .before .before)), (binary k, marks-are k (c .before .before .mark-count .ensures))))
+    (λ c κs. let k = c .before .before .before .before .before .before .before .before .pre in ((few k, sizes k, small-area k, small (c .before .before .before .before .before)), (binary k, marks-are k (c .before .before .mark-count .ensures))))
     (λ c κs. (small (c .before .before .before .before .before .before .before), end-small (c .before .before .before .before .before .before .before .before .before .before .pre) (is (c .before .before .before .before .before .before .before)) (c .before .read-body .ensures) (small (c .before .before .before .before .before .before .before))))
     (λ c κs. search needs)
     (λ c κs. search needs)

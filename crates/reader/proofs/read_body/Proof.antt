@@ -24,10 +24,10 @@ read-body-spec =
     tie.close (tie.spec
     (λ c κs. search needs)
     (λ c κs. let s = c .before .before .before .before .before .before in let k = c .before .before .clear in
-    ((omega (arith, s .pre .0 .0), record { class = omega arith; sizes = s .pre .0 .1 ∙ sym (k .kept .0); place = omega arith; small = s .pre .0 .2 }), (spare-zero _ (s .pre .0 .0) (λ i o. k .ensures i), s .pre .1 .1)))
+    ((omega (arith, s .pre .0 .0), record { class = omega arith; sizes = s .pre .0 .1 ∙ sym (k .kept .0); few = omega (arith, s .pre .0 .2, k .kept .0); place = omega arith; small = s .pre .0 .3 }), (spare-zero _ (s .pre .0 .0) (λ i o. k .ensures i), s .pre .1 .1)))
     (λ c. let s = c .before .before .before .before .before .before .before .before in omega (arith, both s, s .pre .0 .1, s .pre .1 .1, size (c .before)))
     (λ c κs. let s = c .before .before .before .before .before .before .before .before .before in let d = c .before .before in let k = c .before .before .before .before .before .clear in (
-      (omega (arith, s .pre .0 .0), record { class = omega arith; sizes = s .pre .0 .1 ∙ sym (size d); place = omega (arith, marked-near _ _ _ _ (k .last .0) _ (k .kept .0) (k .ensures) (d .read-class .ensures)); small = s .pre .0 .2 }),
+      (omega (arith, s .pre .0 .0), record { class = omega arith; sizes = s .pre .0 .1 ∙ sym (size d); few = omega (arith, s .pre .0 .2, size d); place = omega (arith, marked-near _ _ _ _ (k .last .0) _ (k .kept .0) (k .ensures) (d .read-class .ensures)); small = s .pre .0 .3 }),
       (spare-zero _ (s .pre .0 .0) (unmarked-zero _ _ _ _ (k .last .0) _ (k .kept .0) (k .ensures) (d .read-class .ensures)), omega (arith, both s, s .pre .0 .1, s .pre .1 .1, size d)),
     ))
     (λ c. search needs)

@@ -3,7 +3,7 @@ use Prim.Native.Nat.{_-_, _^_}
 use native.Mathlib.Omega.{arith}
 use lib.Dec.{leb}
 use Rattle.scan.specs.Scan.{digits}
-use Rattle.scan.proofs.Running.{Counted, counted-none, counted-more, counted-all, counted-next}
+use Rattle.line.proofs.Counts.{Counted, counted-none, counted-more, counted-all, counted-next}
 use Rattle.scan.proofs.digits.Statement.{statement}
 use Rattle.scan.proofs.digits.Tie as tie
 

@@ -1,23 +1,14 @@
 -- `scan::mark_count` is the number of marks of a mask. Assumes nothing.
-use mathlib.Core.Path.{_≡_, sym, _∙_}
-use mathlib.Core.List.{List}
-use Prim.Native.Nat.{ℕ, _-_, _<_}
+use Prim.Native.Nat.{_-_}
 use native.Mathlib.Omega.{arith}
 use lib.Dec.{eqb}
 use lib.ListN.{length, getD}
-use borrow.Author.Tests.{eqb-true, eqb-false}
-use Rattle.line.proofs.Cells.{by-bool}
 use Rattle.bitplane.specs.Body.{class}
-use Rattle.bitplane.proofs.Classes.{class-on, class-off}
+use Rattle.bitplane.proofs.Classes.{class-test}
 use Rattle.scan.specs.Inner.{markCount}
-use Rattle.scan.proofs.Running.{Counted, counted-none, counted-more, counted-all, counted-next}
+use Rattle.line.proofs.Counts.{Counted, counted-none, counted-more, counted-all, counted-next}
 use Rattle.scan.proofs.mark_count.Statement.{statement}
 use Rattle.scan.proofs.mark_count.Tie as tie
-
-is-mark : (mask : List ℕ) (i : ℕ) → i < length mask → eqb (getD mask i 0) 1 ≡ class mask 1 i
-is-mark mask i h = by-bool (eqb (getD mask i 0) 1)
-    (λ t. t ∙ sym (class-on mask 1 i h (eqb-true (getD mask i 0) 1 t)))
-    (λ f. f ∙ sym (class-off mask 1 i h (eqb-false (getD mask i 0) 1 f)))
 
 abbrev Inv-loop : tie.InvT-loop
 Inv-loop mask n₀ i₀ i-end n i = Counted (class mask 1) (length mask) i n
@@ -42,5 +33,5 @@ mark-count-spec =
     (λ c. omega arith)
     (λ c. omega arith)
     (λ c. let s = c .before .before .before in
-    counted-more (s .loop .inv) (omega arith) (rw (is-mark (s .before .before .args .mask .now) (s .loop .i) (omega arith)) at (c .one .ensures)))
+    counted-more (s .loop .inv) (omega arith) (rw (class-test (s .before .before .args .mask .now) 1 (s .loop .i) (omega arith)) at (c .one .ensures)))
     returns)

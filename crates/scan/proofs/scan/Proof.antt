@@ -6,7 +6,8 @@ use lib.Dec.{ltb}
 use lib.ListN.{length}
 use Rattle.whole.proofs.Linear.{reading}
 use Rattle.scan.specs.Inner.{signCount}
-use Rattle.scan.proofs.Running.{Scanned, scanned-none, scanned-more, scanned-all, counted-all, counted-next}
+use Rattle.line.proofs.Counts.{counted-all, counted-next}
+use Rattle.scan.proofs.Running.{Scanned, scanned-none, scanned-more, scanned-all}
 use Rattle.scan.proofs.scan.Statement.{statement}
 use Rattle.scan.proofs.scan.Tie as tie
 

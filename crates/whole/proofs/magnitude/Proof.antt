@@ -5,7 +5,7 @@ use native.Mathlib.Omega.{arith}
 use lib.IntN.{pos, _-ℤ_, natAbs}
 use mir.Syntax.{w32, w64}
 use mir.Val.{toZ, ofZ}
-use mir.Facts.{toZ-ofZ}
+use mir.Facts.{toZ-ofZ, fits-widen}
 use Rattle.whole.specs.Within.{up, dn}
 use Rattle.whole.proofs.Linear.{ι-split, lin, size, widen, lt-true, lt-false, below-neg, above-nonNeg, natAbs-fits}
 use Rattle.whole.proofs.Run.{Run, lit, wide, _⊖_, asks, gives, r}
@@ -29,7 +29,7 @@ magnitude-spec =
     tie.close (tie.spec
     (λ c. asks (r (run (c .before))))
     (λ c. asks (run (c .before)))
-    (λ c. rw (flipped c) (tt, natAbs-fits (c .before .args .x) (c .before .fits .x)))
-    (λ c. let f = c .before .fits .x in simp toZ-ofZ (above-nonNeg (c .before .args .x) (above c), natAbs-fits (c .before .args .x) f))
+    (λ c. rw (flipped c) (tt, fits-widen tt (natAbs-fits (c .before .args .x) (c .before .fits .x))))
+    (λ c. let f = c .before .fits .x in simp toZ-ofZ (above-nonNeg (c .before .args .x) (above c), fits-widen tt (natAbs-fits (c .before .args .x) f)))
     (λ c. rw (flipped c))
     (λ c. let f = c .before .fits .x in simp toZ-ofZ))

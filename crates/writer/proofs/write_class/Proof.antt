@@ -8,7 +8,7 @@ use Rattle.writer.proofs.write_class.Tie as tie
 pub write-class-spec : {M : Type 1} → statement M
 write-class-spec =
     tie.close (tie.spec
-    (λ c. let s = c .before .before .before in class-none _ _ (s .args .plane .now) _ _ (s .pre .0 .1) (omega (arith, s .pre .1)))
+    (λ c. let s = c .before .before .before in class-none _ _ (s .args .plane .now) _ _ (s .pre .0 .1 .over) (omega (arith, s .pre .1)))
     (λ c κs. search needs)
     (λ c. search needs)
     (λ c. search needs))

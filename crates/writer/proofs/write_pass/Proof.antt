@@ -1,44 +1,50 @@
--- `writer::write_pass` writes a pass. Assumes nothing.
-use mathlib.Core.Path.{_≡_, refl, _∙_}
-use mathlib.Core.Bool.{true}
-use Prim.Native.Nat.{_≤_, _-_}
+-- `writer::write_pass` writes a pass: the coefficients of a word of 0 give nothing. Assumes nothing.
+use mathlib.Core.Path.{_≡_, refl, sym, _∙_}
+use Prim.Native.Nat.{_*_, _-_, _≤_}
 use native.Mathlib.Omega.{arith}
-use mir.Syntax.{w32}
-use mir.Facts.{toZ-ofZ}
 use lib.ListN.{length}
-use borrow.Author.Needs.{sfits-of}
 use Rattle.line.specs.Cells.{cell}
 use Rattle.bitplane.specs.Body.{class, onePlane, passBits}
-use Rattle.bitplane.proofs.Classes.{class-on, class-off}
-use Rattle.writer.specs.Written.{Sends}
-use Rattle.writer.proofs.Passes.{sends-start, room-on, sends-on, sends-off, sends-all}
+use Rattle.bitplane.proofs.Classes.{class-past}
+use Rattle.members.proofs.Index.{word-off}
+use Rattle.writer.specs.Written.{Sends, share}
+use Rattle.writer.proofs.Runs.{run-past, run-all, sends-start, sends-next, sends-skip, room-next}
 use Rattle.writer.proofs.write_pass.Statement.{statement}
 use Rattle.writer.proofs.write_pass.Tie as tie
 
 abbrev Inv-loop : tie.InvT-loop
-Inv-loop out₀ plane mask c t p q₀ i₀ i-end out q i = (i ≤ length plane) × (length out ≡ length out₀) × Sends (passBits (onePlane (class mask c) t) (cell plane) i) p out₀ out q
+Inv-loop out₀ plane mask index c t p words q₀ k₀ out q k = (k ≤ words) × (length out ≡ length out₀) × Sends (share mask t plane c 0 (4096 * k)) p out₀ out q
 
 abbrev μ-loop : tie.MeasureT-loop
-μ-loop out₀ plane mask c t p q₀ i₀ i-end out q i = length plane - i
+μ-loop out₀ plane mask index c t p words q₀ k₀ out q k = words - k
 
-on : (c : tie.Else1 Inv-loop μ-loop) → class (c .before .before .before .before .before .before .args .mask .now) (c .before .before .before .before .before .before .args .c) (c .before .before .before .loop .i) ≡ true
-on c = class-on _ _ _ (omega arith) (c .if1 .left)
+-- a pass over the words is one over the coefficients: past the last none is of the class
+whole : (c : tie.After-words Inv-loop μ-loop) → let a = c .before .before .before .before .args in
+    passBits (onePlane (class (a .mask .now) (a .c)) (a .t)) (cell (a .plane .now)) (length (a .plane .now)) ≡ share (a .mask .now) (a .t) (a .plane .now) (a .c) 0 (4096 * c .words .result)
+whole c = let s = c .before .before .before .before in let m = s .pre .0 .1 in
+    sym (run-past _ _ 0 (length (s .args .plane .now)) _ (omega (arith, c .words .ensures)) (λ k h. class-past _ _ _ (m .known) (omega (arith, m .over))) ∙ run-all _ _ _)
 
 pub write-pass-spec : {M : Type 1} → statement M
 write-pass-spec =
     tie.close (tie.spec
     Inv-loop
     μ-loop
-    (λ c. (omega arith, refl, sends-start _ _ _))
+    (λ c κs. c .before .before .before .pre .0 .1 .size)
+    (λ c. (omega arith, refl, sends-start _ _ _ _))
+    (λ c. omega arith)
+    (λ c. omega (arith, c .before .before .before .words .ensures))
     (λ c. omega arith)
     (λ c. omega arith)
+    (λ c. let l = c .before .before .before .loop in let s = c .before .before .before .before .before .before .before .before in
+    (omega arith, l .inv .1, sends-skip _ _ 0 (4096 * l .k) 4096 (omega arith) (omega arith) (word-off (s .pre .0 .3 .each (l .k)) (c .if1 .taken)) (l .inv .2)))
+    (λ c. omega (arith, c .before .before .before .before .before .words .ensures))
+    (λ c κs. let l = c .before .before .before .before .loop in let w = c .before .before .before .before .before in let s = w .before .before .before .before in (
+      (s .pre .0 .0, omega (arith, w .words .ensures, s .pre .0 .1 .size), s .pre .0 .1, s .pre .0 .3 .each (l .k)),
+      room-next _ _ 0 (4096 * l .k) 4096 (omega arith) (omega arith) (l .inv .2) (l .inv .1) (rw (whole w) at (s .pre .1)),
+    ))
     (λ c. omega arith)
-    (λ c. let l = c .before .before .before .loop in (omega arith, l .inv .1, sends-off _ _ _ (class-off _ _ _ (omega arith) (c .if1 .taken)) (l .inv .2)))
     (λ c. omega arith)
-    (λ c. omega arith)
-    (λ c κs. let l = c .before .before .before .before .before .loop in let f = sfits-of {w = w32} (c .before .z .given) in (c .before .before .before .before .before .before .before .before .pre .0 .0, (room-on _ _ (l .i) _ (c .before .before .before .before .loop-test .taken) (on (c .before .before)) (toZ-ofZ f) (l .inv .2) (l .inv .1) (c .before .before .before .before .before .before .before .before .pre .1))))
-    (λ c. omega arith)
-    (λ c. omega arith)
-    (λ c. let l = c .before .before .before .before .before .before .before .before .loop in let f = sfits-of {w = w32} (c .before .before .before .before .z .given) in (omega arith, c .before .before .put-code .kept .0 ∙ l .inv .1, sends-on _ _ _ (on (c .before .before .before .before .before)) (toZ-ofZ f) (l .inv .2) (c .before .before .put-code .ensures)))
-    (λ c. omega arith)
-    (λ c. sends-all _ _ (c .before .loop .inv .0) (c .loop-test .left) (c .before .loop .inv .2)))
+    (λ c. let l = c .before .before .before .before .before .before .before .loop in let w = c .before .before .write-word in
+    (omega arith, w .kept .0 ∙ l .inv .1, sends-next _ _ 0 (4096 * l .k) 4096 (omega arith) (omega arith) (l .inv .2) (w .ensures)))
+    (λ c. omega (arith, c .before .loop .inv .1))
+    (λ c. let l = c .before .loop in let w = c .before .before in let e : w .words .result ≡ l .k = omega arith in rw (whole w, e) (l .inv .2)))

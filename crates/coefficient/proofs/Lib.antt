@@ -1,0 +1,3 @@
+-- The laws of coefficients that are read.
+pub mod Coefficients
+pub mod Blocks

@@ -1,0 +1,2 @@
+-- The laws of the members of a class.
+pub mod Index

@@ -1,0 +1,2 @@
+-- What the contracts on the members of a class cite.
+pub mod Index
