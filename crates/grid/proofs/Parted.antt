@@ -3,15 +3,14 @@
 --   source w n == where cell n of a parted line of w cells comes from
 --
 -- Assumes nothing.
-use mathlib.Core.Path.{_≡_, refl, sym, ap, _∙_, fun-ext}
-use mathlib.Core.Bool.{Bool, true, false}
+use mathlib.Core.Path.{_≡_, sym, ap, _∙_, fun-ext}
 use Prim.Native.Nat.{ℕ, _+_, _*_, _-_, _<_, _≤_}
 use native.Mathlib.Omega.{arith}
 use lib.Dec.{ltb}
 use borrow.Author.Tests.{lt-ltb, le-ltb}
 use Rattle.line.specs.Inner.{Agree}
 use Rattle.line.specs.Cells.{Line, choose, evens, odds, behind, joined, lowSide}
-use Rattle.line.proofs.Cells.{by-lt, by-parity, joined-low, joined-high, paired-even, paired-odd}
+use Rattle.line.proofs.Cells.{choose-each, by-lt, by-parity, joined-low, joined-high, paired-even, paired-odd}
 use Rattle.grid.specs.Picture.{Picture, Transform, onLine, rowPass, turned, colPass}
 use Rattle.grid.specs.Placed.{parted, woven, onWoven, placed}
 use Rattle.grid.proofs.Passes.{Local, line-in, line-past, pass-in, pass-past}
@@ -43,11 +42,7 @@ module _ {A : Type 0} (w n : ℕ) (X : Line A) where
 
   pub parted-source : parted w X n ≡ X (source w n)
   unfolding parted joined
-  parted-source = go (ltb n (lowSide w))
-    where
-      go : (b : Bool) → choose b (X (2 * n)) (X (2 * (n - lowSide w) + 1)) ≡ X (choose b (2 * n) (2 * (n - lowSide w) + 1))
-      go true = refl
-      go false = refl
+  parted-source = choose-each X (ltb n (lowSide w)) (2 * n) (2 * (n - lowSide w) + 1)
 
   pub woven-even : woven w X (2 * n) ≡ X n
   unfolding woven

@@ -1,11 +1,11 @@
--- The laws of lines that are joined from lows and highs, or paired from evens and odds, and of how many there are. Assumes nothing.
+-- The laws of choices, of lines that are joined from lows and highs, or paired from evens and odds, and of how many there are. Assumes nothing.
 use mathlib.Core.Path.{_≡_, refl, ap}
 use mathlib.Core.Bool.{Bool, true, false}
 use Prim.Native.Nat.{ℕ, _+_, _*_, _-_, _/_, _%_, _<_, _≤_}
 use native.Mathlib.Decide.{decLt}
 use native.Mathlib.Omega.{arith}
 use borrow.Author.Tests.{lt-ltb, le-ltb}
-use Rattle.line.specs.Cells.{Line, lowSide, joined, paired}
+use Rattle.line.specs.Cells.{Line, choose, lowSide, joined, paired}
 
 -- ---- two cases of a test
 pub by-lt : {C : Type 0} (a b : ℕ) → (a < b → C) → (b ≤ a → C) → C
@@ -21,6 +21,10 @@ by-bool false f g = g refl
 
 pub never : {b : Bool} → b ≡ true → b ≡ false → ⊥
 never p q = let z : _≡_ {A = ℕ} 0 1 = cc in omega arith
+
+pub choose-each : {A C : Type 0} (f : A → C) (b : Bool) (p q : A) → choose b (f p) (f q) ≡ f (choose b p q)
+choose-each f true p q = refl
+choose-each f false p q = refl
 
 -- every place is even or odd
 pub by-parity : (P : ℕ → Type 0) → ((n : ℕ) → P (2 * n)) → ((n : ℕ) → P (2 * n + 1)) → (x : ℕ) → P x

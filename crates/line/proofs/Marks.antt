@@ -1,18 +1,40 @@
--- The laws of marks: of "or", of a mark that may be missing, of "any", and of the low that a marked sample marks. Assumes nothing.
-use mathlib.Core.Path.{_≡_, refl, sym, ap, _∙_}
-use mathlib.Core.Bool.{Bool, true, false, _&&_, _||_}
+-- The laws of marks: of their bytes, of "or", of a mark that may be missing, of "any", and of the low that a marked sample marks. Assumes nothing.
+use mathlib.Core.Path.{_≡_, refl, sym, ap, ap₂, _∙_}
+use mathlib.Core.Bool.{Bool, true, false, _&&_, _||_, or-assoc, or-false}
 use Prim.Native.Nat.{ℕ, zero, suc, _+_, _*_, _-_, _/_, _<_, _≤_}
 use native.Mathlib.Omega.{arith}
+use lib.Bits.{bitOr}
 use lib.Dec.{leb}
 use borrow.Author.Tests.{le-leb, lt-ltb, leb-true}
 use Rattle.kernel.specs.declared.Kernel.{Kernel}
 use Rattle.kernel.specs.declared.Kernel.the-variants.{S, SPlusP, TT, FiveThree}
 use Rattle.kernel.specs.Kernels.{reach}
 use Rattle.line.specs.Cells.{Line, lowSide}
-use Rattle.line.specs.Mask.{anyBelow, near, mark, reachMark, lowMark, highMark, maskLine}
+use Rattle.line.specs.Mask.{marked, byteOf, anyBelow, near, mark, reachMark, lowMark, highMark, maskLine}
 use Rattle.line.proofs.Cells.{by-lt, joined-low}
 
+-- ---- bytes
+pub mark-of : (m : Bool) → marked (byteOf m) ≡ m
+mark-of true = refl
+mark-of false = refl
+
+pub byte-of : (n : ℕ) → n ≤ 1 → byteOf (marked n) ≡ n
+byte-of zero h = refl
+byte-of (suc zero) h = refl
+byte-of (suc (suc n)) h = absurd (omega arith)
+
+pub or-byte : (a b : Bool) → bitOr (byteOf a) (byteOf b) ≡ byteOf (a || b)
+or-byte true true = refl
+or-byte true false = refl
+or-byte false true = refl
+or-byte false false = refl
+
 -- ---- or, and
+pub both-ways : (a b : Bool) → (a ≡ true → b ≡ true) → (b ≡ true → a ≡ true) → a ≡ b
+both-ways true b f g = sym (f refl)
+both-ways false true f g = g refl
+both-ways false false f g = refl
+
 pub or-left : (a b : Bool) → a ≡ true → (a || b) ≡ true
 or-left a b p = rw p
 
@@ -32,6 +54,18 @@ and-parts true b p = (refl, p)
 and-parts false b p = absurd (mathlib.Core.Bool.false≢true p)
 
 -- ---- any
+pub any-same : (M : ℕ) (f g : ℕ → Bool) → ((k : ℕ) → k < M → f k ≡ g k) → anyBelow M f ≡ anyBelow M g
+unfolding anyBelow
+any-same zero f g e = refl
+any-same (suc m) f g e = ap₂ _||_ (any-same m f g (λ k h. e k (omega arith))) (e m (omega arith))
+
+-- any below M, or any of the K from there on
+pub any-add : (M K : ℕ) (f : ℕ → Bool) → anyBelow (M + K) f ≡ (anyBelow M f || anyBelow K (λ k. f (M + k)))
+unfolding anyBelow
+any-add M zero f = let e : M + zero ≡ M = omega arith in rw e (sym (or-false (anyBelow M f)))
+any-add M (suc k) f = let e : M + suc k ≡ suc (M + k) = omega arith in
+    rw e (ap (λ z. z || f (M + k)) (any-add M k f) ∙ or-assoc (anyBelow M f) (anyBelow k (λ i. f (M + i))) (f (M + k)))
+
 pub any-intro : (M : ℕ) (f : ℕ → Bool) (k : ℕ) → k < M → f k ≡ true → anyBelow M f ≡ true
 unfolding anyBelow
 any-intro zero f k h p = absurd (omega arith)

@@ -3,9 +3,9 @@
 --   within r K P n == P holds of a number below K within the reach r of n; reachMark r K B is within r K (pairMark B)
 --
 -- Assumes nothing.
-use mathlib.Core.Path.{_≡_, refl, sym, ap, ap₂, _∙_}
+use mathlib.Core.Path.{_≡_, refl, sym, ap, _∙_}
 use mathlib.Core.Bool.{Bool, true, false, _&&_, _||_, or-comm, or-false}
-use Prim.Native.Nat.{ℕ, zero, suc, _+_, _*_, _-_, _<_, _≤_}
+use Prim.Native.Nat.{ℕ, _+_, _*_, _-_, _<_, _≤_}
 use native.Mathlib.Omega.{arith}
 use borrow.Author.Tests.{le-leb, lt-leb, lt-ltb, le-ltb, leb-true, ltb-true}
 use lib.Dec.{leb, ltb}
@@ -13,12 +13,7 @@ use Rattle.kernel.specs.declared.Kernel.the-variants.{FiveThree}
 use Rattle.line.specs.Cells.{Line, paired}
 use Rattle.line.specs.Mask.{anyBelow, near, mark, pairMark, lowMark, highMark}
 use Rattle.line.proofs.Cells.{by-lt, paired-even, paired-odd}
-use Rattle.line.proofs.Marks.{or-left, or-right, or-cases, and-parts, any-intro, any-elim, near-intro, near-elim}
-
-both-ways : (a b : Bool) → (a ≡ true → b ≡ true) → (b ≡ true → a ≡ true) → a ≡ b
-both-ways true b f g = sym (f refl)
-both-ways false true f g = g refl
-both-ways false false f g = refl
+use Rattle.line.proofs.Marks.{both-ways, or-left, or-right, or-cases, and-parts, any-same, any-intro, any-elim, near-intro, near-elim}
 
 -- ---- the mark at u − d
 module _ (N : ℕ) (B : Line Bool) (u d : ℕ) where
@@ -44,11 +39,6 @@ module _ (N : ℕ) (B : Line Bool) (u d : ℕ) where
 -- ---- any mark within a reach
 abbrev pub within : ℕ → ℕ → Line Bool → Line Bool
 within r K P n = anyBelow K (λ k. near r n k && P k)
-
-any-same : (M : ℕ) (f g : ℕ → Bool) → ((k : ℕ) → k < M → f k ≡ g k) → anyBelow M f ≡ anyBelow M g
-unfolding anyBelow
-any-same zero f g e = refl
-any-same (suc m) f g e = ap₂ _||_ (any-same m f g (λ k h. e k (omega arith))) (e m (omega arith))
 
 module _ (K : ℕ) where
   pub within-same : (r : ℕ) (P Q : Line Bool) (n : ℕ) → ((k : ℕ) → k < K → P k ≡ Q k) → within r K P n ≡ within r K Q n

@@ -1,9 +1,9 @@
 -- Parts of a buffer that hold marks: joining n marks to others one by one, and what the join of whole rows, moved up or down, makes of a part.
 -- Assumes nothing.
 use mathlib.Core.Path.{_≡_, refl, sym, ap, ap₂, _∙_}
-use mathlib.Core.Bool.{Bool, true, false, _||_, or-false}
+use mathlib.Core.Bool.{Bool, false, _||_, or-false}
 use mathlib.Core.List.{List}
-use Prim.Native.Nat.{ℕ, zero, suc, _+_, _*_, _-_, _<_, _≤_, min}
+use Prim.Native.Nat.{ℕ, _+_, _*_, _-_, _<_, _≤_, min}
 use native.Mathlib.Nat.{add-mul, mul-le-mul-right}
 use native.Mathlib.Omega.{arith}
 use lib.Arith.{digits-lt}
@@ -11,22 +11,11 @@ use lib.Bits.{bitOr}
 use lib.ListN.{length, set, length-set}
 use lib.Seq.{getD-set-same, getD-set-other}
 use borrow.Author.Count.{below-more, below-none}
-use Rattle.line.specs.Mask.{mark, marked, byteOf}
+use Rattle.line.specs.Mask.{mark, byteOf}
 use Rattle.line.proofs.Cells.{by-lt}
+use Rattle.line.proofs.Marks.{byte-of, or-byte}
 use Rattle.line_mask.specs.Marks.{byte, lane, Apart, Parts, Joined, Part, Marked}
 use Rattle.line_mask.proofs.Reach.{mark-at, mark-before, mark-past}
-
--- ---- bytes
-or-byte : (a b : Bool) → bitOr (byteOf a) (byteOf b) ≡ byteOf (a || b)
-or-byte true true = refl
-or-byte true false = refl
-or-byte false true = refl
-or-byte false false = refl
-
-byte-own : (b : ℕ) → b ≤ 1 → b ≡ byteOf (marked b)
-byte-own zero h = refl
-byte-own (suc zero) h = refl
-byte-own (suc (suc n)) h = absurd (omega arith)
 
 -- ---- a join, mark by mark
 module _ (at from : ℕ) (l : List ℕ) where
@@ -96,8 +85,8 @@ module _ {F G : ℕ → ℕ → Bool} {t x c m r at from n : ℕ} {l l′ : List
 pub marks-own : {a b c p q : ℕ} {l : List ℕ} → Parts a b c p q l → Marked (λ n j. lane a c l j n) (λ n j. lane b c l j n) a b c p q l l
 marks-own r = record {
   size = refl;
-  first = record { on = λ n j h k. byte-own _ (r .first _ (digits-lt h k)) };
-  second = record { on = λ n j h k. byte-own _ (r .second _ (digits-lt h k)) };
+  first = record { on = λ n j h k. sym (byte-of _ (r .first _ (digits-lt h k))) };
+  second = record { on = λ n j h k. sym (byte-of _ (r .second _ (digits-lt h k))) };
   below = λ i h. refl;
   between = λ i h g. refl;
   above = λ i h. refl;

@@ -11,6 +11,7 @@ use Rattle.kernel.specs.declared.Choice.the-variants.{Taken}
 use Rattle.kernel.specs.Kernels.{kernelOf, kernelTaken}
 use Rattle.line.specs.Mask.{byteOf}
 use Rattle.line.proofs.Cells.{by-lt}
+use Rattle.line.proofs.Marks.{byte-of}
 use Rattle.line.specs.Cells.{lowSide}
 use Rattle.grid.specs.Picture.{Picture, rowPass, colPass, walk, picture}
 use Rattle.grid.specs.Placed.{onWoven, placed}
@@ -25,7 +26,7 @@ use Rattle.picture_mask.specs.Masks.{regionOf, maskByte}
 use Rattle.picture_mask.specs.Areas.{Binary, Area, Whole, Region, bytes, maskOn, maskLineBytes}
 use Rattle.picture_mask.proofs.Local.{bytes-local}
 use Rattle.picture_mask.proofs.Running.{picture-most, binary-of, placed-most}
-use Rattle.picture_mask.proofs.Walks.{byte-of, walk-bytes}
+use Rattle.picture_mask.proofs.Walks.{walk-bytes}
 
 -- ---- the region
 pub region-binary : (l : List ℕ) → badMark l ≡ false → Binary l

@@ -1,6 +1,6 @@
 -- Drawing a rectangle row by row: n bytes written one after the other fill a run, and each run is one row more of the rectangle.
 -- Assumes nothing.
-use mathlib.Core.Path.{_≡_, refl, sym, ap, _∙_}
+use mathlib.Core.Path.{_≡_, refl, ap, _∙_}
 use mathlib.Core.Bool.{Bool, true, false, _||_}
 use mathlib.Core.List.{List}
 use Prim.Native.Nat.{ℕ, _+_, _*_, _-_, _/_, _%_, _<_, _≤_}
@@ -12,7 +12,7 @@ use lib.Dec.{leb, ltb}
 use lib.ListN.{getD}
 use Rattle.line.specs.Cells.{choose}
 use Rattle.line.proofs.Cells.{by-lt}
-use Rattle.line.proofs.Marks.{or-left, or-right, or-cases, and-both, and-parts}
+use Rattle.line.proofs.Marks.{both-ways, or-left, or-right, or-cases, and-both, and-parts}
 use Rattle.refusal.proofs.Made.{Made}
 use Rattle.region.specs.Region.{inBox}
 use Rattle.region.specs.Drawing.{within, Filled, Drawn}
@@ -45,11 +45,6 @@ module _ (x y w h c r : ℕ) where
       let q = and-parts (within x w c) (leb y r) (p .0) in
       (q .0, leb-true y r (q .1), ltb-true r (y + h) (p .1))
 
-pub same : (a b : Bool) → (a ≡ true → b ≡ true) → (b ≡ true → a ≡ true) → a ≡ b
-same true b f g = sym (f refl)
-same false true f g = g refl
-same false false f g = refl
-
 pub twice : (a b : Bool) (v z : ℕ) → choose a v (choose b v z) ≡ choose (a || b) v z
 twice true b v z = refl
 twice false b v z = refl
@@ -77,7 +72,7 @@ module _ (x y w W : ℕ) (fit : x + w ≤ W) (k i : ℕ) where
       within-intro ((y + k) * W + x) w i (omega (arith, div-add-mod' i W)) (omega (arith, div-add-mod' i W))
 
   row-more : (within ((y + k) * W + x) w i || inBox x y w k (i % W) (i / W)) ≡ inBox x y w (k + 1) (i % W) (i / W)
-  row-more = same _ _
+  row-more = both-ways _ _
       (λ e. or-cases _ _ e row-in (λ o. let p = box-elim x y w k (i % W) (i / W) o in box-intro x y w (k + 1) (i % W) (i / W) (p .0) (p .1) (omega arith)))
       (λ e. by-lt (i / W) (y + k)
       (λ lt. let p = box-elim x y w (k + 1) (i % W) (i / W) e in or-right (within ((y + k) * W + x) w i) _ (box-intro x y w k (i % W) (i / W) (p .0) (p .1) lt))

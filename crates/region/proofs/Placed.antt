@@ -11,7 +11,7 @@ use lib.ListN.{length, getD}
 use Rattle.line.specs.Cells.{choose, lowSide}
 use Rattle.line.specs.Mask.{byteOf}
 use Rattle.line.proofs.Cells.{by-lt, by-parity, low-left}
-use Rattle.line.proofs.Marks.{or-left, or-right, or-cases}
+use Rattle.line.proofs.Marks.{both-ways, or-left, or-right, or-cases}
 use Rattle.grid.specs.Placed.{woven, placed}
 use Rattle.grid.proofs.Passes.{factor-pos}
 use Rattle.grid.proofs.Parted.{source, source-low, source-high, woven-even, woven-odd, placed-cell}
@@ -19,7 +19,7 @@ use Rattle.refusal.specs.Tests.{badRectangles}
 use Rattle.refusal.specs.Results.{Result}
 use Rattle.region.specs.Region.{inBox, inRegion}
 use Rattle.region.specs.Drawing.{within, Filled, placedByte, DrawnPlaced, Framed}
-use Rattle.region.proofs.Boxes.{within-intro, within-elim, box-intro, box-elim, same, twice, kept}
+use Rattle.region.proofs.Boxes.{within-intro, within-elim, box-intro, box-elim, twice, kept}
 use Rattle.region.proofs.Painted.{each-inside}
 
 -- ---- where a cell of a line ends, and where it comes from
@@ -102,7 +102,7 @@ module _ (x y w W H : ℕ) (fit : x + w ≤ W) (k : ℕ) (low : y + k < H) where
 
   row-placed : (i : ℕ) → i < H * W → (odds i || evens i || inBox x y w k (source W (i % W)) (source H (i / W)))
       ≡ inBox x y w (k + 1) (source W (i % W)) (source H (i / W))
-  row-placed i lt = same _ _
+  row-placed i lt = both-ways _ _
       (λ e. or-cases _ _ e
       (λ o. or-cases _ _ o (odds-in i) (evens-in i))
       (λ o. let p = box-elim x y w k (source W (i % W)) (source H (i / W)) o in box-intro x y w (k + 1) (source W (i % W)) (source H (i / W)) (p .0) (p .1) (omega arith)))
