@@ -9,7 +9,7 @@
 /* From the picture to the stream and back, once; whether all is as worked. */
 static int there_and_back(const struct shot *shot) {
     int32_t plane[MOST_CELLS], undone[MOST_CELLS];
-    uint8_t mask[MOST_CELLS], stream[MOST_BYTES];
+    uint8_t mask[MOST_CELLS], joined[MOST_CELLS], stream[MOST_BYTES];
     uint16_t shown[MOST_CELLS];
     uint64_t results[DHIIRQOBAAL_HEADER_RESULTS];
     size_t cells = shot->w * shot->h, length = shot->length;
@@ -21,6 +21,8 @@ static int there_and_back(const struct shot *shot) {
            dhiirqobaal_arrived(stream, length, results, 1) == 0 && results[0] == length &&
            dhiirqobaal_header(stream, length, results, DHIIRQOBAAL_HEADER_RESULTS) == 0 && results[3] == shot->w &&
            dhiirqobaal_read(stream, length, plane, cells, mask, cells, results, 4) == 0 && results[1] == 1 &&
+           dhiirqobaal_join(shot->w, shot->h, mask, cells, mask, cells, joined, cells) == 0 &&
+           memcmp(joined, mask, cells) == 0 &&
            dhiirqobaal_undo(shot->kernel, shot->levels, shot->w, shot->h, plane, cells, undone, cells) == 0 &&
            dhiirqobaal_show(8, shot->w, shot->h, undone, cells, shown, cells) == 0 &&
            memcmp(shown, shot->samples, cells * sizeof *shown) == 0 &&

@@ -30,9 +30,10 @@ static void check_pictures(void) {
     int32_t plane[4], undone[4], dropped[4] = {-7, 3, 0, 0};
     const int32_t kept[4] = {-4, 0, 0, 0};
     uint16_t shown[4];
-    uint8_t none[4] = {0, 0, 0, 0};
+    uint8_t none[4] = {0, 0, 0, 0}, joined[4];
     expect(dhiirqobaal_region(numbers, 4, 2, 2, region, 4) == 0 && memcmp(region, corner, 4) == 0, "region");
     expect(dhiirqobaal_mask(0, 1, 2, 2, region, 4, mask, 4) == 0 && memcmp(mask, all, 4) == 0, "mask");
+    expect(dhiirqobaal_join(2, 2, region, 4, none, 4, joined, 4) == 0 && memcmp(joined, corner, 4) == 0, "join");
     expect(dhiirqobaal_transform(0, 1, 8, 2, 2, samples, 4, plane, 4) == 0, "transform");
     expect(memcmp(plane, coefficients, sizeof plane) == 0, "coefficients");
     expect(dhiirqobaal_undo(0, 1, 2, 2, plane, 4, undone, 4) == 0, "undo");
@@ -238,6 +239,7 @@ int main(void) {
     check_asking();
     check_arrived();
     check_header();
+    check_joins();
     check_levels();
     check_level_streams();
     check_version();

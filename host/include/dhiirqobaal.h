@@ -18,6 +18,7 @@
  *   rectangle  four numbers, x, y, width and height; (0, 0) is the upper left sample
  *   region     one byte a sample: 1 inside any rectangle, else 0
  *   mask       one byte a coefficient: 1 for those that make the region's samples exact (the marked ones), else 0
+ *   joined     of two regions, or of two masks, byte by byte: 1 where either has a 1, else 0
  *   plane      the coefficients of a picture; an accepted one has magnitudes below 2^22 alone
  *   undone     what undoing a plane gives, all of its levels or the deepest: whole numbers of either sign, not yet
  *              brought into range
@@ -135,6 +136,20 @@
  * 0's mask; from that dhiirqobaal_mask with r for J, r from 1 on, gives level r's in the upper left of its buffer. The
  * mask that dhiirqobaal_show_stream gives is another one, after J levels.
  *
+ * ADDING A RECTANGLE
+ * The mask of two regions joined is their two masks joined, for each kernel, J, W and H (this is proved). So a
+ * rectangle is added to a mask without the rectangles that are in it already:
+ *   1. dhiirqobaal_region with the four numbers of the new rectangle alone gives its own region.
+ *   2. dhiirqobaal_mask, with the kernel and J of the old mask, gives that region's own mask.
+ *   3. dhiirqobaal_join of the old mask and this one gives the mask of both.
+ * Step 2 goes over the whole picture, however small the rectangle is. The masks of rectangles that come up again can be
+ * kept, and any of them joined by step 3 alone.
+ * The order does not matter. A mask joined with itself stays as it is, and so does one joined with the mask of the
+ * empty region, which is all 0. Two regions are joined in the same way, and give the region of both.
+ * Both masks must be of the same kernel and J. Nothing in their bytes tells of these: masks of different ones are
+ * joined without a refusal, and what they give is of no use. dhiirqobaal_truncate takes a joined mask;
+ * dhiirqobaal_write takes the rectangles, at most 32, and makes the mask of all of them itself.
+ *
  * THE LINK
  * The bytes must arrive unchanged, in their order, none left out. The format has no check sum: a changed bit is read as
  * it stands, and mostly no refusal and no result number tells of it. Where the link can change or lose bytes, send the
@@ -184,11 +199,11 @@ extern "C" {
 
 /* The version: of this header, and by dhiirqobaal_version of the library. 10,000 major + 100 minor + patch. */
 #define DHIIRQOBAAL_VERSION_MAJOR 1
-#define DHIIRQOBAAL_VERSION_MINOR 1
+#define DHIIRQOBAAL_VERSION_MINOR 2
 #define DHIIRQOBAAL_VERSION_PATCH 0
 #define DHIIRQOBAAL_VERSION \
     (10000 * DHIIRQOBAAL_VERSION_MAJOR + 100 * DHIIRQOBAAL_VERSION_MINOR + DHIIRQOBAAL_VERSION_PATCH)
-#define DHIIRQOBAAL_VERSION_TEXT "1.1.0"
+#define DHIIRQOBAAL_VERSION_TEXT "1.2.0"
 
 /* The limits. */
 #define DHIIRQOBAAL_MAX_SIDE 4096
@@ -206,6 +221,7 @@ extern "C" {
 /* The bytes of stack that a call needs at most, below the caller's stack pointer. */
 #define DHIIRQOBAAL_STACK_REGION 1024
 #define DHIIRQOBAAL_STACK_MASK 40960
+#define DHIIRQOBAAL_STACK_JOIN 1024
 #define DHIIRQOBAAL_STACK_TRANSFORM 143360
 #define DHIIRQOBAAL_STACK_UNDO 20480
 #define DHIIRQOBAAL_STACK_SHOW 1024
@@ -351,6 +367,19 @@ uint64_t dhiirqobaal_region(const uint32_t *numbers, size_t numbers_len, size_t 
  */
 uint64_t dhiirqobaal_mask(size_t kernel, size_t levels, size_t w, size_t h, const uint8_t *region, size_t region_len,
                           uint8_t *mask, size_t mask_len);
+
+/*
+ * Joins two regions, or two masks of the same kernel and J.
+ *   w, h           W and H
+ *   first, second  W * H bytes each, each 0 or 1; both may be the same buffer
+ *   joined         written, W * H bytes; apart from `first` and `second`
+ * Refusals in their order: 4, 5 (first, second or joined), 9 (first or second).
+ * Accepted: joined is 1 at every place where first or second is 1 and 0 at all others. Of two regions this is the
+ * region of all that lies in either; of two masks it is the mask of that region. Under each refusal: as it was.
+ * It needs at most 1,024 bytes of stack, DHIIRQOBAAL_STACK_JOIN.
+ */
+uint64_t dhiirqobaal_join(size_t w, size_t h, const uint8_t *first, size_t first_len, const uint8_t *second,
+                          size_t second_len, uint8_t *joined, size_t joined_len);
 
 /*
  * The plane of a picture.
@@ -557,7 +586,7 @@ uint64_t dhiirqobaal_arrived(uint8_t *stream, size_t stream_len, uint64_t *resul
 uint64_t dhiirqobaal_header(const uint8_t *stream, size_t stream_len, uint64_t *results, size_t results_len);
 
 /*
- * The library's version, 10,000 major + 100 minor + patch: 10100 for 1.1.0. A program that was compiled with the header
+ * The library's version, 10,000 major + 100 minor + patch: 10200 for 1.2.0. A program that was compiled with the header
  * of the same version finds it equal to DHIIRQOBAAL_VERSION. It takes nothing and refuses nothing.
  * It needs at most 1,024 bytes of stack, DHIIRQOBAAL_STACK_VERSION.
  */

@@ -12,7 +12,7 @@
 
 static uint16_t *samples, *shown;
 static int32_t *plane, *undone;
-static uint8_t *region, *mask, *stream, *cut;
+static uint8_t *region, *mask, *joined, *stream, *cut;
 static uint32_t numbers[NUMBERS];
 static uint64_t results[DHIIRQOBAAL_READ_RESULTS];
 static size_t width, height, cells;
@@ -59,6 +59,12 @@ static uint64_t call_region(size_t kernel)
 static uint64_t call_mask(size_t kernel)
 {
     return dhiirqobaal_mask(kernel, LEVELS, width, height, region, cells, mask, cells);
+}
+
+static uint64_t call_join(size_t kernel)
+{
+    (void)kernel;
+    return dhiirqobaal_join(width, height, region, cells, mask, cells, joined, cells);
 }
 
 static uint64_t call_truncate(size_t kernel)
@@ -133,6 +139,7 @@ struct function functions[] = {
     {"show_level", DHIIRQOBAAL_STACK_SHOW_LEVEL, call_show_level, 0, 0, 0},
     {"region", DHIIRQOBAAL_STACK_REGION, call_region, 0, 0, 0},
     {"mask", DHIIRQOBAAL_STACK_MASK, call_mask, 0, 0, 0},
+    {"join", DHIIRQOBAAL_STACK_JOIN, call_join, 0, 0, 0},
     {"truncate", DHIIRQOBAAL_STACK_TRUNCATE, call_truncate, 0, 0, 0},
     {"write", DHIIRQOBAAL_STACK_WRITE, call_write, 0, 0, 0},
     {"arrived", DHIIRQOBAAL_STACK_ARRIVED, call_arrived, 0, 0, 0},
@@ -163,6 +170,7 @@ void get_buffers(void)
     undone = room(MOST_CELLS, sizeof *undone);
     region = room(MOST_CELLS, 1);
     mask = room(MOST_CELLS, 1);
+    joined = room(MOST_CELLS, 1);
     stream = room(STREAM_BYTES, 1);
     cut = room(STREAM_BYTES, 1);
 }

@@ -1,10 +1,10 @@
 #!/usr/bin/env python3
-"""Writes docs/READING.md: the definitions on which a public contract or a record of the demands depends, and no others.
+"""Writes docs/READING.md: the definitions on which a public contract or a record of the theorems depends, and no others.
 
     make.py           writes the page
     make.py --check   compares it with what would be written; the last line is 'N passed, M failed'
 
-From the `ensures` of every public entry and from the records of the demands the names are followed through the `use` lines
+From the `ensures` of every public entry and from the records of the theorems the names are followed through the `use` lines
 of crates/*/specs. What each definition says is its line in the glossary at the head of its file. Refused, with a message:
 an entry that has a `requires`; a definition to believe outside specs/, without a line in its glossary, or in front of one that
 it uses; a file of specs/ that mixes definitions to believe with others; one whose first comment names no section of
@@ -17,11 +17,11 @@ from collections import namedtuple
 
 ROOT = os.path.dirname(os.path.dirname(os.path.dirname(os.path.abspath(__file__))))
 PAGE = 'docs/READING.md'
-ENTRIES = [('wavelet', 'transform'), ('wavelet', 'undo'), ('region', 'region'), ('picture_mask', 'mask'), ('samples', 'show'),
+ENTRIES = [('wavelet', 'transform'), ('wavelet', 'undo'), ('region', 'region'), ('picture_mask', 'mask'), ('joining', 'join'), ('samples', 'show'),
            ('level_picture', 'show_level'), ('samples', 'truncate'), ('encoder', 'write'), ('decoder', 'read'), ('cutter', 'cut'), ('header', 'body'),
            ('header_reader', 'read_header'), ('header', 'arrived'), ('showing', 'show_stream'),
            ('showing_limited', 'show_limited')]
-DEMANDS = ('exactness', 'Demands', ['Demand2', 'Demand3', 'Arrived', 'SmallPicture'])
+THEOREMS = [('exactness', 'Demands', ['Demand2', 'Demand3', 'Arrived', 'SmallPicture']), ('joining', 'Laws', ['Joining'])]
 KIT = [
     ('ℕ, zero, suc', 'natural numbers; `suc n` is n + 1'),
     ('_+_, _*_, _^_, min, max', 'as usual, on natural numbers'),
@@ -42,7 +42,7 @@ KIT = [
 LANGUAGE = '''`abbrev` and `unfoldable` begin a definition and say how the checker treats it; `λ x. e` is the function that gives e for x. A `use` of
 `Rattle.grid.specs.Picture` is of `crates/grid/specs/Picture.antt`; `specs.declared.Kernel` is the type `Kernel` of the crate's `src/lib.rt`. In a
 contract, `now (b .entry)` and `now (b .exit)` are what the buffer b holds before and after the call, r is what the call returns.'''
-PROMISES = 'The records of demands 2 and 3, of what arrived and of the small picture, and the contracts of demand 1, none of which has a `requires`.'
+PROMISES = 'The records of demands 2 and 3, of what arrived, of the small picture and of joining, and the contracts of demand 1, none of which has a `requires`.'
 INNER = '''These files of `specs/` hold what only the contracts of inner functions, proofs and worked examples cite. No promise depends on them: a
 wrong definition there can make a proof fail, not a promise hollow.'''
 
@@ -206,11 +206,11 @@ class Reader:
         return path, text[:found.start()].count('\n') + 1, self.follow(promised, *uses(text))
 
     def promises(self):
-        """The records of the demands and the contracts of the entries: name, file, line, definitions."""
-        crate, name, records = DEMANDS
-        for record in records:
-            definition = self.define(self.modules[crate, name].definitions[record])
-            yield record, definition.module.path, definition.line, definition.uses
+        """The records of the theorems and the contracts of the entries: name, file, line, definitions."""
+        for crate, name, records in THEOREMS:
+            for record in records:
+                definition = self.define(self.modules[crate, name].definitions[record])
+                yield record, definition.module.path, definition.line, definition.uses
         exported = re.findall(r'^pub extern "C" fn (\w+)', read('crates/interface/src/lib.rt'), re.M)
         for crate, function in ENTRIES + [('interface', function) for function in exported]:
             yield function, *self.entry(crate, function)
@@ -272,7 +272,7 @@ Made by `tools/reading/make.py` from the code; `.ci/run` fails where it is not c
 
 The checker proves that the code meets its contracts and that the theorems hold. It cannot say whether contracts and theorems say
 what is wanted: that is for a reader, and this page leads to all of it. At its end stand the promises: the contracts of the entries and
-the records of demands 2 and 3 and of what arrived. Above them stand the definitions on which they depend, and no others: **{len(definitions)} definitions, {sum(d.lines for d in definitions)} lines**
+the records of the theorems. Above them stand the definitions on which they depend, and no others: **{len(definitions)} definitions, {sum(d.lines for d in definitions)} lines**
 in `specs/`, comments and blank lines not counted, and the {len(types)} types of the answers, {sum(t.lines for t in types)} lines in `src/`. They stand in reading order: each
 uses only what stands above it, and the types. `docs/FORMAT.md` says the same in words; behind each file stands the section to
 compare it with."""

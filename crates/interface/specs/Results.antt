@@ -60,4 +60,4 @@ abbrev pub arrivalResults : arrival.Numbers → List ℕ
 arrivalResults n = n .sent ∷ []
 
 abbrev pub libraryVersion : ℕ
-libraryVersion = 10000 * 1 + 100 * 1 + 0
+libraryVersion = 10000 * 1 + 100 * 2 + 0

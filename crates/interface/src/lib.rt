@@ -13,6 +13,7 @@ ghost use Rattle.header.specs.Arrival.{arrivedOf, arrivalNumbers};
 ghost use Rattle.header.specs.Answers as arriving;
 ghost use Rattle.region.specs.Region.{regionByte, regionTests};
 ghost use Rattle.picture_mask.specs.Masks.{maskByte, maskTests};
+ghost use Rattle.joining.specs.Join.{joinByte, joinTests};
 ghost use Rattle.samples.specs.Samples.{inRange, truncated, showTests, truncateTests};
 ghost use Rattle.level_picture.specs.Level.{levelNumber, levelSample, levelTests};
 ghost use Rattle.wavelet.specs.Wavelet.{coefficient, undoneNumber, transformTests, undoTests};
@@ -65,6 +66,21 @@ pub extern "C" fn dhiirqobaal_mask(
     ensures { λ r. ⌜ Result 0 (accepted (maskTests kernel levels w h (now (region .entry)) (length (now (mask .entry))))) (maskByte kernel levels w h (now (region .entry))) (now (mask .entry)) (now (mask .exit)) ⌝ }
 {
     let answer = picture_mask::mask(kernel, levels, w, h, region, mask);
+    refusal::answer_number(answer)
+}
+
+#[no_mangle]
+pub extern "C" fn dhiirqobaal_join(
+    w: usize,
+    h: usize,
+    one: &[u8],
+    other: &[u8],
+    joined: &mut [u8],
+) -> u64
+    ensures { λ r. ⌜ r ≡ first (joinTests w h (now (one .entry)) (now (other .entry)) (length (now (joined .entry)))) ⌝ }
+    ensures { λ r. ⌜ Result 0 (accepted (joinTests w h (now (one .entry)) (now (other .entry)) (length (now (joined .entry))))) (joinByte (now (one .entry)) (now (other .entry))) (now (joined .entry)) (now (joined .exit)) ⌝ }
+{
+    let answer = joining::join(w, h, one, other, joined);
     refusal::answer_number(answer)
 }
 
@@ -442,5 +458,5 @@ pub extern "C" fn dhiirqobaal_arrived(stream: &mut [u8], results: &mut [u64]) ->
 pub extern "C" fn dhiirqobaal_version() -> u64
     ensures { λ r. ⌜ r ≡ libraryVersion ⌝ }
 {
-    10100
+    10200
 }

@@ -2,6 +2,8 @@
 --
 --   marked b          == the mark that a byte is
 --   byteOf m          == the byte of a mark: 1 for marked, 0 for unmarked
+--   either B C        == B and C joined: marked where B or C is
+--   unmarked          == the line without a mark
 --   anyBelow M f      == f holds of a number below M
 --   near r n k        == k is within the reach r of n
 --   mark N B u d      == B's mark at the index u − d; what is missing, outside 0 .. N − 1, counts as unmarked
@@ -26,6 +28,12 @@ marked b = eqb b 1
 abbrev pub byteOf : Bool → ℕ
 byteOf true = 1
 byteOf false = 0
+
+abbrev pub either : Line Bool → Line Bool → Line Bool
+either B C n = B n || C n
+
+abbrev pub unmarked : Line Bool
+unmarked n = false
 
 unfoldable pub anyBelow : ℕ → (ℕ → Bool) → Bool
 anyBelow zero f = false

@@ -5,6 +5,7 @@
 
 mod base;
 mod cut_streams;
+mod joining;
 mod little_region;
 mod outside;
 mod outside_53;
@@ -70,12 +71,13 @@ fn print_calls(sizes: &[Size]) {
 fn main() {
     let largest = SIZES[SIZES.len() - 1];
     let samples = picture(largest.w, largest.h);
-    let sections: [(&str, &dyn Fn()); 6] = [
+    let sections: [(&str, &dyn Fn()); 7] = [
         ("calls", &|| print_calls(&SIZES)),
         ("base", &base::print),
         ("little", &|| little_region::print(largest, &samples)),
         ("cut", &|| cut_streams::print(largest, &samples)),
         ("small", &|| small_picture::print(largest, &samples)),
+        ("join", &|| joining::print(&SIZES)),
         ("shot", &|| whole_shot::print(&SIZES)),
     ];
     let wanted: Vec<String> = env::args().skip(1).collect();
@@ -118,6 +120,11 @@ mod tests {
     #[test]
     fn small() {
         small_picture::print(SMALL, &picture(SMALL.w, SMALL.h));
+    }
+
+    #[test]
+    fn join() {
+        joining::print(&[SMALL]);
     }
 
     #[test]

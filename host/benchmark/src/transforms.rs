@@ -109,7 +109,7 @@ pub fn transform_rows(kernel: usize, size: Size, levels: usize, samples: &[u16])
 }
 
 /// Eight rectangles, four in each of two rows, over about a tenth of the picture.
-fn eight(size: Size) -> Vec<u32> {
+pub fn eight(size: Size) -> Vec<u32> {
     let across = |percent: usize| (size.w * percent / 100) as u32;
     let down = |percent: usize| (size.h * percent / 100) as u32;
     let [width, height] = [across(9), down(14)];

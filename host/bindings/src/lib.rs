@@ -25,6 +25,16 @@ mod raw {
             mask: *mut u8,
             mask_len: usize,
         ) -> u64;
+        pub fn dhiirqobaal_join(
+            w: usize,
+            h: usize,
+            first: *const u8,
+            first_len: usize,
+            second: *const u8,
+            second_len: usize,
+            joined: *mut u8,
+            joined_len: usize,
+        ) -> u64;
         pub fn dhiirqobaal_transform(
             kernel: usize,
             levels: usize,
@@ -189,6 +199,21 @@ pub fn mask(
             region.len(),
             mask.as_mut_ptr(),
             mask.len(),
+        )
+    }
+}
+
+pub fn join(w: usize, h: usize, first: &[u8], second: &[u8], joined: &mut [u8]) -> u64 {
+    unsafe {
+        raw::dhiirqobaal_join(
+            w,
+            h,
+            first.as_ptr(),
+            first.len(),
+            second.as_ptr(),
+            second.len(),
+            joined.as_mut_ptr(),
+            joined.len(),
         )
     }
 }

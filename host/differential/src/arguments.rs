@@ -17,6 +17,8 @@ struct Setup {
     undone: Vec<i32>,
     region: Vec<u8>,
     mask: Vec<u8>,
+    /// Joined with the region.
+    second: Vec<u8>,
     /// Length of the output buffer of W·H elements.
     out_len: usize,
     /// Level of the picture that is shown, and the lengths of its two buffers.
@@ -52,6 +54,7 @@ fn setup(random: &mut Random, shape: Shape) -> Setup {
         undone: any_numbers(random, len),
         region: mark_bytes(random, len),
         mask: mark_bytes(random, len),
+        second: mark_bytes(random, len),
         out_len: len,
         r,
         undone_len: shape.area_len(r),
@@ -92,6 +95,16 @@ fn mask(setup: &Setup) -> Call {
         h: setup.shape.h,
         region: setup.region.clone(),
         mask: held(setup.out_len),
+    }
+}
+
+fn join(setup: &Setup) -> Call {
+    Call::Join {
+        w: setup.shape.w,
+        h: setup.shape.h,
+        first: setup.region.clone(),
+        second: setup.second.clone(),
+        joined: held(setup.out_len),
     }
 }
 
@@ -273,7 +286,7 @@ fn wrong_rectangle(random: &mut Random, w: usize, h: usize) -> [u32; 4] {
 }
 
 /// Kinds of spoiling, by number.
-const KINDS: usize = 23;
+const KINDS: usize = 26;
 
 fn spoil(random: &mut Random, setup: &mut Setup, kind: usize) {
     let shape = &mut setup.shape;
@@ -331,7 +344,22 @@ fn spoil(random: &mut Random, setup: &mut Setup, kind: usize) {
             // W and H exchanged: accepted lengths, another picture.
             (shape.w, shape.h) = (shape.h, shape.w);
         }
-        _ => spoil_level(random, setup, kind),
+        18..=22 => spoil_level(random, setup, kind),
+        _ => spoil_second(random, setup, kind),
+    }
+}
+
+/// What only joining has: a second buffer of marks.
+fn spoil_second(random: &mut Random, setup: &mut Setup, kind: usize) {
+    if kind == 23 {
+        let len = wrong_length(random, setup.second.len());
+        setup.second.resize(len, 0);
+        return;
+    }
+    let byte = random.within(2, 255) as u8;
+    put_somewhere(random, &mut setup.second, byte);
+    if kind == 25 {
+        put_somewhere(random, &mut setup.region, byte);
     }
 }
 
@@ -403,6 +431,7 @@ macro_rules! groups {
 
 groups!(region);
 groups!(mask);
+groups!(join);
 groups!(transform);
 groups!(undo);
 groups!(show);
@@ -424,7 +453,7 @@ pub fn every_size(group: &mut Group, random: &mut Random) {
     };
     let setup = setup(random, shape);
     for entry in [
-        region, mask, transform, undo, show, show_level, truncate, write,
+        region, mask, join, transform, undo, show, show_level, truncate, write,
     ] {
         group.compare(entry(&setup));
     }

@@ -64,6 +64,7 @@ calls! {
         kernel: usize, levels: usize, w: usize, h: usize,
         region: Vec<u8>, mask: Vec<u8>
     );
+    Join = join(w: usize, h: usize, first: Vec<u8>, second: Vec<u8>, joined: Vec<u8>);
     Transform = transform(
         kernel: usize, levels: usize, depth: usize, w: usize, h: usize,
         samples: Vec<u16>, plane: Vec<i32>

@@ -11,6 +11,7 @@ mod call;
 mod chains;
 mod group;
 mod guarded;
+mod joins;
 mod levels;
 mod random;
 mod shots;
@@ -28,13 +29,16 @@ use random::Random;
 type Entry = (&'static str, u64, fn(&mut Group, &mut Random));
 
 #[rustfmt::skip]
-const GROUPS: [Entry; 57] = [
+const GROUPS: [Entry; 68] = [
     ("region, accepted", 4_000, arguments::region::accepted),
     ("region, one wrong argument", 9_000, arguments::region::one_wrong),
     ("region, several wrong arguments", 20_000, arguments::region::several_wrong),
     ("mask, accepted", 4_000, arguments::mask::accepted),
     ("mask, one wrong argument", 9_000, arguments::mask::one_wrong),
     ("mask, several wrong arguments", 20_000, arguments::mask::several_wrong),
+    ("join, accepted", 4_000, arguments::join::accepted),
+    ("join, one wrong argument", 9_000, arguments::join::one_wrong),
+    ("join, several wrong arguments", 20_000, arguments::join::several_wrong),
     ("transform, accepted", 4_000, arguments::transform::accepted),
     ("transform, one wrong argument", 9_000, arguments::transform::one_wrong),
     ("transform, several wrong arguments", 20_000, arguments::transform::several_wrong),
@@ -61,6 +65,14 @@ const GROUPS: [Entry; 57] = [
     ("every plane of 4 by 2", 1 << 16, arguments::every_small_plane),
     ("every row and column of 7", 1 << 14, arguments::every_odd_line),
     ("every row and column to 6", 1 << 12, arguments::every_short_line),
+    ("joins, sides at the limits", 12, joins::sides),
+    ("joins, buffer lengths", 200, joins::buffer_lengths),
+    ("joins, every byte above 1", 200, joins::every_wrong_byte),
+    ("joins, every length to 1,000", 1_000, joins::every_length),
+    ("joins, every two regions of 3 by 2", 1 << 12, joins::every_two_regions),
+    ("joins, every size to 20 by 20 with every kernel and J", 400, joins::every_setting),
+    ("joins, a rectangle at a time", 600, joins::a_rectangle_at_a_time),
+    ("joins, large pictures", 32, joins::large),
     ("levels, every size to 20 by 20 with every kernel, J and r", 400, levels::every_setting),
     ("levels, large pictures", 32, levels::large),
     ("levels, buffer lengths", 200, levels::buffer_lengths),
@@ -89,9 +101,10 @@ const GROUPS: [Entry; 57] = [
 ];
 
 /// The numbers that each entry returns; each must come up in some case.
-const RETURNED: [(&str, &[u64]); 14] = [
+const RETURNED: [(&str, &[u64]); 15] = [
     ("region", &[0, 4, 7, 8, 5]),
     ("mask", &[0, 1, 2, 4, 5, 9]),
+    ("join", &[0, 4, 5, 9]),
     ("transform", &[0, 1, 2, 3, 4, 5, 6]),
     ("undo", &[0, 1, 2, 4, 5, 10]),
     ("show", &[0, 3, 4, 5]),

@@ -1,11 +1,19 @@
-//! Grey pictures in PGM and PNG files: no sample is rounded, and what is written is read back sample by sample.
+//! Grey pictures in PGM and PNG files, and bitmaps in PBM files: no sample is rounded, and what is written is read back
+//! sample by sample.
 
+pub mod bitmap;
 mod other;
 mod pgm;
 mod png;
 mod png_chunks;
+mod pnm;
 
+pub use bitmap::Bitmap;
 use std::path::Path;
+
+/// More samples than this are not read where a file can claim more of them than it has bytes, so that a header alone
+/// cannot ask for all memory.
+const MOST_SAMPLES: u64 = 1 << 28;
 
 /// A grey picture, row by row.
 #[derive(Clone, Debug, PartialEq)]
@@ -45,14 +53,31 @@ impl Picture {
     /// Its fields are open to all, so that they are tested before a file is made of them.
     fn check(&self) -> Result<(), String> {
         let Picture { width, height, top, .. } = *self;
-        if width == 0 || height == 0 || top == 0 {
-            return Err("the width, the height or the maximum value is 0".to_string());
-        }
-        if width.checked_mul(height) != Some(self.samples.len()) {
-            return Err(format!("there are {} samples where {width} by {height} should be", self.samples.len()));
+        check_count(width, height, self.samples.len())?;
+        if top == 0 {
+            return Err("the maximum value is 0".to_string());
         }
         self.check_range()
     }
+}
+
+/// Whether there are as many samples as a width and a height say.
+fn check_count(width: usize, height: usize, samples: usize) -> Result<(), String> {
+    if width == 0 || height == 0 {
+        return Err("the width or the height is 0".to_string());
+    }
+    if width.checked_mul(height) != Some(samples) {
+        return Err(format!("there are {samples} samples where {width} by {height} should be"));
+    }
+    Ok(())
+}
+
+/// Zeros; too many for the machine's memory are an error, not an abort.
+fn zeros(count: usize) -> Result<Vec<u8>, String> {
+    let mut buffer = Vec::new();
+    buffer.try_reserve_exact(count).map_err(|_| format!("no memory for {count} bytes of samples"))?;
+    buffer.resize(count, 0);
+    Ok(buffer)
 }
 
 /// The formats that a picture is written in.

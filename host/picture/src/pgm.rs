@@ -1,159 +1,72 @@
 //! PGM pictures, raw (P5) and plain (P2), as netpbm reads them: maximum value 1 to 65,535, and every sample as it
 //! stands. A library would scale the samples by the maximum value, so they are read here.
 
+use crate::pnm::{Fault, Input, Size};
 use crate::Picture;
 
 /// The longest line of a plain file.
 const LINE: usize = 70;
 
-/// The part of a file that has not been read yet.
-struct Input<'a> {
-    rest: &'a [u8],
-}
-
-/// Why no number could be read.
-enum Fault {
-    End,
-    NotNumber,
-    TooLarge,
-}
-
-impl Fault {
-    fn words(&self, what: &str) -> String {
-        match self {
-            Fault::End => format!("the picture is cut: the file ends before {what} and the white space behind it"),
-            Fault::NotNumber => format!("{what} is not a number with white space behind it"),
-            Fault::TooLarge => format!("{what} is too large, above {}", i32::MAX),
-        }
-    }
-}
-
-impl Input<'_> {
-    fn byte(&mut self) -> Option<u8> {
-        let (&first, rest) = self.rest.split_first()?;
-        self.rest = rest;
-        Some(first)
-    }
-
-    /// The next byte outside comments. A comment goes from # to the end of its line, and counts as that line end.
-    fn next(&mut self) -> Option<u8> {
-        let mut byte = self.byte()?;
-        if byte == b'#' {
-            while byte != b'\n' && byte != b'\r' {
-                byte = self.byte()?;
-            }
-        }
-        Some(byte)
-    }
-
-    /// The next decimal number and the one byte of white space behind it. Without that byte the number may be the
-    /// beginning of a longer one, in a file that was cut.
-    fn number(&mut self) -> Result<u32, Fault> {
-        let mut byte = self.next().ok_or(Fault::End)?;
-        while is_blank(byte) {
-            byte = self.next().ok_or(Fault::End)?;
-        }
-        if !byte.is_ascii_digit() {
-            return Err(Fault::NotNumber);
-        }
-        let mut value = 0i32;
-        while byte.is_ascii_digit() {
-            let digit = i32::from(byte - b'0');
-            value = value.checked_mul(10).and_then(|v| v.checked_add(digit)).ok_or(Fault::TooLarge)?;
-            byte = self.next().ok_or(Fault::End)?;
-        }
-        if is_blank(byte) {
-            Ok(value.unsigned_abs())
-        } else {
-            Err(Fault::NotNumber)
-        }
-    }
-}
-
-fn is_blank(byte: u8) -> bool {
-    matches!(byte, b' ' | b'\t' | b'\n' | b'\r')
-}
-
 /// What stands in front of the samples.
 struct Header {
-    width: u32,
-    height: u32,
+    size: Size,
     top: u16,
 }
 
 impl Header {
-    fn count(&self) -> u64 {
-        u64::from(self.width) * u64::from(self.height)
+    /// The bytes that the samples of a raw file take: one or two each.
+    fn raw_bytes(&self) -> u64 {
+        // Width and height are below 2^31, so that the product is below 2^63.
+        self.size.count() * if self.top > 255 { 2 } else { 1 }
     }
 }
 
 /// Takes a file that begins with P5 or P2; its first picture is read, whatever stands behind it is not.
 pub fn parse(file: &[u8]) -> Result<Picture, String> {
-    let plain = file.starts_with(b"P2");
-    let mut input = Input { rest: file.get(2..).unwrap_or_default() };
-    if input.rest.first().is_some_and(|&byte| !is_blank(byte) && byte != b'#') {
-        return Err("not a PGM picture: no white space stands behind P5 or P2".to_string());
-    }
+    let mut input = Input::of(file, "PGM picture")?;
     let header = parse_header(&mut input)?;
-    let samples = if plain { plain_samples(&mut input, &header)? } else { raw_samples(&input, &header)? };
+    let samples = match file.starts_with(b"P2") {
+        true => plain_samples(&mut input, &header)?,
+        false => raw_samples(input.raw(header.raw_bytes())?, &header),
+    };
     // Every sample took at least a byte of the file, so that width and height fit a usize.
-    let picture = Picture { width: header.width as usize, height: header.height as usize, top: header.top, samples };
+    let (width, height) = (header.size.width as usize, header.size.height as usize);
+    let picture = Picture { width, height, top: header.top, samples };
     picture.check_range()?;
     Ok(picture)
 }
 
 fn parse_header(input: &mut Input) -> Result<Header, String> {
-    let mut number = |what: &str| input.number().map_err(|fault| fault.words(what));
-    let (width, height, top) = (number("the width")?, number("the height")?, number("the maximum value")?);
-    if width == 0 || height == 0 {
-        return Err("the width or the height is 0".to_string());
-    }
+    let size = input.size()?;
+    let top = input.named("the maximum value")?;
     match u16::try_from(top) {
-        Ok(top) if top > 0 => Ok(Header { width, height, top }),
+        Ok(top) if top > 0 => Ok(Header { size, top }),
         _ => Err(format!("the maximum value {top} is not 1 to 65535")),
     }
 }
 
 /// One or two bytes a sample, the high byte first.
-fn raw_samples(input: &Input, header: &Header) -> Result<Vec<u16>, String> {
-    let size = if header.top > 255 { 2 } else { 1 };
-    // Width and height are below 2^31, so that the product is below 2^63.
-    let needed = header.count() * size;
-    let bytes = usize::try_from(needed).ok().and_then(|needed| input.rest.get(..needed));
-    let Some(bytes) = bytes else {
-        let there = input.rest.len();
-        return Err(format!(
-            "the picture is cut: {there} of {needed} bytes of samples are there; copy or make the file again"
-        ));
-    };
-    Ok(match size {
-        1 => bytes.iter().map(|&b| u16::from(b)).collect(),
-        _ => bytes.chunks_exact(2).map(|b| u16::from_be_bytes([b[0], b[1]])).collect(),
-    })
+fn raw_samples(bytes: &[u8], header: &Header) -> Vec<u16> {
+    match header.top > 255 {
+        false => bytes.iter().map(|&b| u16::from(b)).collect(),
+        true => bytes.chunks_exact(2).map(|b| u16::from_be_bytes([b[0], b[1]])).collect(),
+    }
 }
 
-/// What is odd of a raw file that is taken: a program that ends lines with CR LF wrote its header.
+/// What is odd of a raw file that is taken.
 pub fn odd(file: &[u8]) -> Option<String> {
-    let mut input = Input { rest: file.get(2..)? };
+    let mut input = Input::of(file, "PGM picture").ok()?;
     let header = parse_header(&mut input).ok()?;
-    let behind = file.get(file.len() - input.rest.len() - 1..)?;
-    let size = if header.top > 255 { 2 } else { 1 };
-    let further = input.rest.len() as u64 > header.count() * size;
-    (behind.starts_with(b"\r\n") && further).then(|| {
-        "the header ends with CR LF, where PGM has one byte: the LF is taken for the first sample, as netpbm takes it; \
-         if the picture lies one sample off, write the file with LF alone"
-            .to_string()
-    })
+    input.odd(file, header.raw_bytes())
 }
 
 /// Decimal numbers, each with white space behind it.
 fn plain_samples(input: &mut Input, header: &Header) -> Result<Vec<u16>, String> {
-    let count = header.count();
+    let count = header.size.count();
     // Nothing is reserved for `count`: a header may say more than the file has.
     let mut samples = Vec::new();
     for i in 0..count {
-        let (column, row) = (i % u64::from(header.width), i / u64::from(header.width));
-        let what = || format!("the sample in column {column}, row {row} (counted from 0)");
+        let what = || header.size.sample(i);
         match input.number() {
             Ok(value) => samples.push(u16::try_from(value).map_err(|_| format!("{} is above 65535", what()))?),
             Err(Fault::End) => {

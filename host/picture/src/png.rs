@@ -2,12 +2,9 @@
 //! any of its transformations, so that no sample is changed; other depths are kept in PNG's own way, see `widened`.
 
 use crate::png_chunks::{self, Chunks};
-use crate::Picture;
+use crate::{zeros, Picture, MOST_SAMPLES};
 use ::png::chunk::ChunkType;
 use ::png::{BitDepth, ColorType, Decoder, DecodingError, Encoder, EncodingError, Info, Limits, Transformations};
-
-/// More samples than this are not read, so that a header alone cannot ask for all memory.
-const MOST_SAMPLES: u64 = 1 << 28;
 
 /// The bytes that deflate makes of one, at most.
 const MOST_FROM_A_BYTE: u64 = 1032;
@@ -85,14 +82,6 @@ fn check_size(info: &Info, chunks: &Chunks) -> Result<(), String> {
         ));
     }
     Ok(())
-}
-
-/// Zeros; too many for the machine's memory are an error, not an abort.
-fn zeros(count: usize) -> Result<Vec<u8>, String> {
-    let mut buffer = Vec::new();
-    buffer.try_reserve_exact(count).map_err(|_| format!("no memory for {count} bytes of samples"))?;
-    buffer.resize(count, 0);
-    Ok(buffer)
 }
 
 /// The samples of rows that begin at whole bytes, the highest bits of a byte first.

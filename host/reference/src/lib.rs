@@ -117,6 +117,24 @@ pub fn mask(
     0
 }
 
+pub fn join(w: usize, h: usize, first: &[u8], second: &[u8], joined: &mut [u8]) -> u64 {
+    let tested = || -> Tested {
+        refusal::sides(w, h)?;
+        for len in [first.len(), second.len(), joined.len()] {
+            refusal::length(len, w, h)?;
+        }
+        refusal::marks(first)?;
+        refusal::marks(second)
+    };
+    if let Err(number) = tested() {
+        return number;
+    }
+    for (place, byte) in joined.iter_mut().enumerate() {
+        *byte = u8::from(first[place] == 1 || second[place] == 1);
+    }
+    0
+}
+
 pub fn transform(
     kernel: usize,
     levels: usize,

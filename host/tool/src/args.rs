@@ -38,6 +38,8 @@ pub enum Command {
     Cut(Cut),
     Show(Show),
     Compare(Compare),
+    Mask(Mask),
+    Join(Join),
     Demo(Demo),
     Help(Help),
 }
@@ -80,12 +82,8 @@ pub struct Encode {
     pub into: Option<PathBuf>,
     #[command(flatten)]
     pub marked: Marked,
-    /// The kernel: s, s+p, tt or 5/3, or its number, 0 to 3
-    #[arg(long, value_name = "K", default_value = "5/3", value_parser = kernel, allow_hyphen_values = true)]
-    pub kernel: usize,
-    /// The levels J, 1 to 5
-    #[arg(long, value_name = "J", default_value = "3", value_parser = whole, allow_hyphen_values = true)]
-    pub levels: usize,
+    #[command(flatten)]
+    pub transform: Transform,
     /// The depth D in bits, 1 to 10 [default: that of the picture's maximum value]
     #[arg(long, value_name = "D", value_parser = whole, allow_hyphen_values = true)]
     pub depth: Option<usize>,
@@ -194,6 +192,55 @@ pub struct Compare {
     pub stream: Option<PathBuf>,
 }
 
+/// Make the mask of a region: the coefficients that its samples need
+///
+/// The region is a bitmap, a PBM file (plain or raw) of any size up to 4,096 by 4,096, drawn in any
+/// picture editor: black is inside. Its mask is a bitmap of the same size, written as a raw PBM file:
+/// black are the coefficients from which the samples inside are rebuilt exactly, whatever the others
+/// are.
+///
+/// The mask lies where the coefficients lie. Each level parts an area in four, each side halved, the
+/// first half the larger one where it is odd: in the upper left the lows, in the upper right the
+/// highs of the rows, in the lower left those of the columns, in the lower right those of both. The
+/// first level parts the whole bitmap, each further one the upper left part of the one before. So
+/// the low part, where the region is seen small, lies in the upper left corner, and around it lie
+/// the highs of each level.
+#[derive(Args)]
+#[command(display_name = "dhiirqobaal")]
+#[command(after_help = STATUSES, verbatim_doc_comment)]
+#[command(override_usage = "dhiirqobaal mask [OPTIONS] IN OUT")]
+pub struct Mask {
+    /// The region, '-' for standard input
+    #[arg(value_name = "IN")]
+    pub input: PathBuf,
+    /// The mask, '-' for standard output
+    #[arg(value_name = "OUT")]
+    pub output: PathBuf,
+    #[command(flatten)]
+    pub transform: Transform,
+}
+
+/// Join regions, or masks: what is inside any of them
+///
+/// The bitmaps are PBM files (plain or raw) of one size; the joined one, a raw PBM file of that size,
+/// is black where any of them is black or a rectangle lies. At least two parts are joined: two
+/// bitmaps, or a bitmap and rectangles. Bitmaps of different sizes are refused (5).
+///
+/// The mask of joined regions is the join of their masks, byte for byte, under one kernel and level
+/// count: where a region grows, the mask of what is new, joined with the old mask, is the new mask.
+/// A rectangle is one of samples, so that --rect and --rects add to a region, not to a mask.
+#[derive(Args)]
+#[command(display_name = "dhiirqobaal")]
+#[command(after_help = STATUSES, verbatim_doc_comment)]
+#[command(override_usage = "dhiirqobaal join [OPTIONS] IN... OUT")]
+pub struct Join {
+    /// The bitmaps to join and, last, the joined one; '-' for standard input and output
+    #[arg(value_name = "FILE", required = true)]
+    pub files: Vec<PathBuf>,
+    #[command(flatten)]
+    pub marked: Marked,
+}
+
 /// Draw an operator panel, encode it, cut it at several lengths and show each, one also small
 #[derive(Args)]
 #[command(display_name = "dhiirqobaal")]
@@ -226,6 +273,17 @@ pub struct Marked {
 }
 
 // The same holds here.
+#[derive(Args)]
+pub struct Transform {
+    /// The kernel: s, s+p, tt or 5/3, or its number, 0 to 3
+    #[arg(long, value_name = "K", default_value = "5/3", value_parser = kernel, allow_hyphen_values = true)]
+    pub kernel: usize,
+    /// The levels J, 1 to 5
+    #[arg(long, value_name = "J", default_value = "3", value_parser = whole, allow_hyphen_values = true)]
+    pub levels: usize,
+}
+
+// And here.
 #[derive(Args)]
 pub struct CableArgs {
     /// The cable's bits a second, 1 to 10^12, for all seconds

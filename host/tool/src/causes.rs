@@ -6,7 +6,7 @@ use crate::failure::meaning;
 use crate::rectangles::{self, Rectangle};
 use crate::report;
 use crate::words;
-use picture::{Format, Picture};
+use picture::{Bitmap, Format, Picture};
 
 const MAX_DEPTH: usize = 10;
 
@@ -23,13 +23,18 @@ pub fn of_setting(number: u64, setting: &Setting) -> String {
         2 => format!("they are {levels}"),
         3 => format!("it is {depth}"),
         5 => format!("{width} by {height} samples are {} elements", words::grouped(*width as u64 * *height as u64)),
-        _ => return of_region(number, rectangles, *width, *height),
+        _ => return region_words(number, rectangles, *width, *height),
     };
     format!("{} ({culprit})", meaning(number))
 }
 
-/// What of some rectangles, or of the size of the picture that they lie in, was refused.
+/// What of some rectangles, or of the size of what they lie in, was refused, and what to do.
 pub fn of_region(number: u64, rectangles: &[Rectangle], width: usize, height: usize) -> String {
+    region_words(number, rectangles, width, height) + remedy(number)
+}
+
+/// The same without what to do.
+fn region_words(number: u64, rectangles: &[Rectangle], width: usize, height: usize) -> String {
     let culprit = match number {
         4 => Some(format!("it is {} by {}", words::size(width), words::size(height))),
         7 => Some(format!("there are {}", rectangles.len())),
@@ -57,13 +62,41 @@ fn bad_rectangle(rectangles: &[Rectangle], width: u64, height: u64) -> Option<St
     })
 }
 
+/// What to do about a number, a size or rectangles that were refused.
+fn remedy(number: u64) -> &'static str {
+    match number {
+        1 => "; --kernel takes s, s+p, tt or 5/3",
+        2 => "; --levels takes 1 to 5",
+        4 => "; 'pamcut' (netpbm) takes a part of it",
+        7 => "; one rectangle may go around several of them",
+        8 => "; a rectangle is x,y,w,h or WxH+X+Y, and lies inside the picture",
+        _ => "",
+    }
+}
+
+/// What of a kernel, levels and a region was refused, and what to do.
+pub fn of_mask(number: u64, kernel: usize, levels: usize, region: &Bitmap) -> String {
+    let Bitmap { width, height, .. } = *region;
+    // A bitmap has one bit a sample.
+    let setting = Setting { kernel, levels, depth: 1, width, height, rectangles: Vec::new() };
+    of_setting(number, &setting) + remedy(number)
+}
+
+/// Which sizes differ of two bitmaps that should be joined (5), and what to do; `name` is the second one's.
+pub fn of_sizes(first: &Bitmap, second: &Bitmap, name: &str) -> String {
+    format!(
+        "it has {} samples and {name} has {}, but bitmaps of one size are joined; draw both at the size of the \
+         picture, or fit one of them: 'pamcut' cuts samples off, 'pnmpad -white' adds some outside (netpbm)",
+        report::extent((first.width, first.height)),
+        report::extent((second.width, second.height))
+    )
+}
+
 /// What of a picture was refused before any work, and what to do next; `format` is that of its file, `given` the depth of
 /// the command line.
 pub fn of_picture(number: u64, setting: &Setting, picture: &Picture, format: Format, given: Option<usize>) -> String {
     let words = of_setting(number, setting);
     let advice = match (number, given) {
-        (1, _) => "--kernel takes s, s+p, tt or 5/3".to_string(),
-        (2, _) => "--levels takes 1 to 5".to_string(),
         (3, None) => return too_deep(picture, format),
         (3, Some(_)) if picture.depth() <= MAX_DEPTH => {
             format!("without --depth it is the picture's own, {}", picture.depth())
@@ -72,8 +105,7 @@ pub fn of_picture(number: u64, setting: &Setting, picture: &Picture, format: For
         (4, _) => {
             format!("{} makes it smaller, 'pamcut' takes a part of it", netpbm(format, "pamscale -xysize 4096 4096"))
         }
-        (7, _) => "one rectangle may go around several of them".to_string(),
-        _ => "a rectangle is x,y,w,h or WxH+X+Y, and lies inside the picture".to_string(),
+        _ => return words + remedy(number),
     };
     format!("{words}; {advice}")
 }
@@ -136,11 +168,12 @@ pub fn large_sample(picture: &Picture, format: Format, depth: usize) -> Option<S
 
 /// What to do with a file that was refused as a stream, where its first bytes tell it.
 pub fn advice(file: &[u8]) -> &'static str {
-    let picture = [&b"P2"[..], b"P5", b"\x89PNG"].iter().any(|start| file.starts_with(start));
-    if picture {
-        "; the file begins like a picture, of which 'encode' makes a stream"
-    } else {
-        ""
+    match file {
+        [b'P', b'2' | b'5', ..] | [0x89, b'P', b'N', b'G', ..] => {
+            "; the file begins like a picture, of which 'encode' makes a stream"
+        }
+        [b'P', b'1' | b'4', ..] => "; the file begins like a bitmap, which 'mask' and 'join' take",
+        _ => "",
     }
 }
 

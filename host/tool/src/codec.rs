@@ -8,7 +8,7 @@ use crate::causes;
 use crate::failure::Failure;
 use crate::rectangles::{self, Rectangle};
 use crate::words;
-use picture::Picture;
+use picture::{Bitmap, Picture};
 
 const HEADER_RESULTS: usize = 135;
 const READ_RESULTS: usize = 139;
@@ -113,6 +113,26 @@ pub fn region(rectangles: &[Rectangle], width: usize, height: usize) -> Result<V
     let number = bindings::region(&rectangles::numbers(rectangles), width, height, &mut region);
     accepted(number, || causes::of_region(number, rectangles, width, height))?;
     Ok(region)
+}
+
+/// The mask of a region.
+pub fn mask(kernel: usize, levels: usize, region: &Bitmap) -> Result<Bitmap, Failure> {
+    let Bitmap { width, height, .. } = *region;
+    let mut mask = zeros::<u8>(region.samples.len())?;
+    let number = bindings::mask(kernel, levels, width, height, &region.samples, &mut mask);
+    accepted(number, || causes::of_mask(number, kernel, levels, region))?;
+    Ok(Bitmap { width, height, samples: mask })
+}
+
+/// Two regions, or two masks, joined. `sizes` says which sizes they have, where these differ: that is refused (5).
+pub fn join(first: &Bitmap, second: &Bitmap, sizes: impl FnOnce() -> String) -> Result<Bitmap, Failure> {
+    let Bitmap { width, height, .. } = *first;
+    let mut joined = zeros::<u8>(first.samples.len())?;
+    // The codec knows lengths, and 2 by 3 samples are as long as 3 by 2: what is of another size goes in as nothing.
+    let fitting = if (second.width, second.height) == (width, height) { &second.samples[..] } else { &[] };
+    let number = bindings::join(width, height, &first.samples, fitting, &mut joined);
+    accepted(number, || if number == 5 { sizes() } else { causes::of_region(number, &[], width, height) })?;
+    Ok(Bitmap { width, height, samples: joined })
 }
 
 /// The coefficients of a picture, under a setting that was not refused. `large` names the sample that is above 2^D - 1,

@@ -65,7 +65,7 @@ pub fn check_standard_input(inputs: &[&Path]) -> Result<(), Failure> {
 }
 
 /// An output must not be the same file as an input, under whatever names.
-fn check_same(inputs: &[&Path], output: &Path) -> Result<(), Failure> {
+pub fn check_same(inputs: &[&Path], output: &Path) -> Result<(), Failure> {
     let Some(target) = identity(output, Handle::stdout) else {
         return Ok(());
     };

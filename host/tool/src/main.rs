@@ -1,4 +1,5 @@
-//! The technician's tool for exact-region panel shots: encodes pictures, cuts and shows streams, compares pictures.
+//! The technician's tool for exact-region panel shots: encodes pictures, cuts and shows streams, compares pictures,
+//! makes and joins masks.
 
 mod args;
 mod cable;
@@ -53,6 +54,8 @@ fn run(line: &Line) -> Result<Status, Failure> {
         Command::Cut(args) => commands::cut::run(args, line.quiet),
         Command::Show(args) => commands::show::run(args, line.quiet),
         Command::Compare(args) => commands::compare::run(args, line.quiet),
+        Command::Mask(args) => commands::mask::run(args, line.quiet),
+        Command::Join(args) => commands::join::run(args, line.quiet),
         Command::Demo(args) => demo::run(&args.folder, line.quiet),
         Command::Help(args) => help(args.command.as_deref()),
     }

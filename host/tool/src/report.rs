@@ -5,6 +5,7 @@ use crate::codec::{Reading, Stream, KERNELS};
 use crate::failure::Status;
 use crate::rectangles::Rectangle;
 use crate::words;
+use picture::Bitmap;
 use serde_json::{json, Value};
 
 /// How many of how many bytes arrived, and whether every marked bit did.
@@ -22,8 +23,13 @@ pub fn arrival_at(level: usize, stream: &Stream, reading: &Reading) -> String {
 }
 
 /// A width and a height.
-fn extent((width, height): (usize, usize)) -> String {
+pub fn extent((width, height): (usize, usize)) -> String {
     format!("{} by {}", words::size(width), words::size(height))
+}
+
+/// How many of a bitmap's samples are inside.
+pub fn inside(bitmap: &Bitmap) -> String {
+    format!("{} of {}", words::size(bitmap.inside()), words::count(bitmap.samples.len(), "sample"))
 }
 
 pub fn bytes_arrived(stream: &Stream) -> String {

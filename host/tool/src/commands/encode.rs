@@ -27,8 +27,8 @@ pub fn run(args: &Encode, quiet: bool) -> Result<Status, Failure> {
     let jobs = jobs::jobs(&args.files, args.into.as_deref(), &others, |input| with_ending(input, ".stream"))?;
     let choice = Choice {
         rectangles: marked_rectangles(&args.marked)?,
-        kernel: args.kernel,
-        levels: args.levels,
+        kernel: args.transform.kernel,
+        levels: args.transform.levels,
         depth: args.depth,
     };
     let (messages, cable) = (messages(quiet, &jobs), args.cable.cable());

@@ -4,6 +4,8 @@ pub mod compare;
 pub mod cut;
 pub mod encode;
 pub mod info;
+pub mod join;
+pub mod mask;
 pub mod show;
 
 use crate::args::Marked;
@@ -15,7 +17,7 @@ use crate::jobs::Job;
 use crate::messages::{tell, Messages};
 use crate::output;
 use crate::rectangles::{self, Rectangle};
-use picture::{Format, Picture};
+use picture::{bitmap, Bitmap, Format, Picture};
 use std::ffi::OsStr;
 use std::path::{Path, PathBuf};
 
@@ -45,11 +47,23 @@ fn with_ending(path: &Path, ending: &str) -> Option<PathBuf> {
 /// A picture, and the format of its file.
 fn read_picture(path: &Path, messages: &Messages) -> Result<(Picture, Format), Failure> {
     let file = input::read(path)?;
-    let picture = picture::parse(&file).map_err(|problem| Failure::input_output(problem).of(&input::name(path)))?;
-    if let Some(odd) = picture::odd(&file) {
+    let picture = taken(path, picture::parse(&file), picture::odd(&file), messages)?;
+    Ok((picture, Format::of_file(&file).unwrap_or(Format::Pgm)))
+}
+
+/// A bitmap: a region or a mask.
+fn read_bitmap(path: &Path, messages: &Messages) -> Result<Bitmap, Failure> {
+    let file = input::read(path)?;
+    taken(path, bitmap::parse(&file), bitmap::odd(&file), messages)
+}
+
+/// What was parsed of a file, where it was; what is odd of it is said.
+fn taken<T>(path: &Path, parsed: Result<T, String>, odd: Option<String>, messages: &Messages) -> Result<T, Failure> {
+    let found = parsed.map_err(|problem| Failure::input_output(problem).of(&input::name(path)))?;
+    if let Some(odd) = odd {
         messages.note(&format!("{}: {odd}", input::name(path)));
     }
-    Ok((picture, Format::of_file(&file).unwrap_or(Format::Pgm)))
+    Ok(found)
 }
 
 /// A stream's file, whole or what a call that broke off has left of it. Its header is accepted.
@@ -67,6 +81,19 @@ pub fn write_picture(path: &Path, picture: &Picture, format: Format, messages: &
     output::write(path, &bytes)?;
     if let Some(lost) = picture::lost(picture, format) {
         messages.note(&format!("{}: {lost}", output::name(path)));
+    }
+    Ok(())
+}
+
+/// Writes a bitmap, and says where its name promises another format.
+fn write_bitmap(path: &Path, bitmap: &Bitmap, messages: &Messages) -> Result<(), Failure> {
+    let bytes = bitmap::format(bitmap).map_err(|text| Failure::input_output(text).of(&output::name(path)))?;
+    output::write(path, &bytes)?;
+    if Format::of_name(path) == Some(Format::Png) {
+        messages.note(&format!(
+            "{}: a PBM file, whatever its name says; 'pnmtopng IN > OUT.png' (netpbm) makes a PNG file of it",
+            output::name(path)
+        ));
     }
     Ok(())
 }

@@ -70,13 +70,19 @@ fn noise_never_panics() {
         file.extend(noise(seed, 16));
         file[seed as usize % 11] = noise(seed, 1)[0];
         here.put("file.pgm", file);
-        for name in ["noise", "stream", "file.pgm"] {
+        let mut file = b"P4 12 8 ".to_vec();
+        file.extend(noise(seed, 16));
+        file[seed as usize % 8] = noise(seed, 1)[0];
+        here.put("file.pbm", file);
+        for name in ["noise", "stream", "file.pgm", "file.pbm"] {
             here.run(&format!("info {name}"));
             here.run(&format!("show {name} out --frames"));
             here.run(&format!("show {name} out --frames --level {}", seed % 7));
             here.run(&format!("cut {name} out --length {length}"));
             here.run(&format!("encode {name} out --levels 1"));
             here.run(&format!("compare {name} file.pgm"));
+            here.run(&format!("mask {name} out --levels 1"));
+            here.run(&format!("join {name} {name} out --rect 0,0,1,1"));
         }
     }
 }

@@ -6,21 +6,21 @@ use std::ffi::OsStr;
 use std::fs;
 use std::os::unix::ffi::OsStrExt;
 
-const COMMANDS: [&str; 6] = ["encode", "info", "cut", "show", "compare", "demo"];
+const COMMANDS: [&str; 8] = ["encode", "info", "cut", "show", "compare", "mask", "join", "demo"];
 
 #[test]
 fn help_and_version_on_every_command() {
     let here = Folder::new();
     for words in ["-V", "--version"] {
         let answer = here.run(words);
-        assert_eq!((answer.status, answer.said().as_str()), (0, "dhiirqobaal 1.1.0\n"));
+        assert_eq!((answer.status, answer.said().as_str()), (0, "dhiirqobaal 1.2.0\n"));
     }
     for command in COMMANDS {
         for words in ["-h", "--help"] {
             here.ends(&format!("{command} {words}"), 0, &format!("dhiirqobaal {command}"));
         }
         here.ends(&format!("help {command}"), 0, &format!("dhiirqobaal {command}"));
-        assert_eq!(here.run(&format!("{command} --version")).said(), "dhiirqobaal 1.1.0\n");
+        assert_eq!(here.run(&format!("{command} --version")).said(), "dhiirqobaal 1.2.0\n");
         here.ends("help", 0, &format!("\n  {command}"));
     }
     for line in ["help --help", "help -h", "help help", "help --version"] {
@@ -29,9 +29,13 @@ fn help_and_version_on_every_command() {
     for words in ["5/3 with 3 levels, the default", "96,735", "More levels show the rest of the picture"] {
         here.ends("encode --help", 0, words);
     }
+    for words in ["black is inside", "The mask lies where the coefficients lie", "in the upper left the lows"] {
+        here.ends("mask --help", 0, words);
+    }
+    here.ends("join --help", 0, "The mask of joined regions is the join of their masks, byte for byte");
 }
 
-const WRONG: [&str; 38] = [
+const WRONG: [&str; 53] = [
     "",
     "decode in.pgm out",
     "encode",
@@ -67,6 +71,21 @@ const WRONG: [&str; 38] = [
     "compare in.pgm",
     "compare in.pgm in.pgm --stream s --rect 0,0,1,1",
     "compare in.pgm in.pgm --stream s --rects s",
+    "mask",
+    "mask in.pbm",
+    "mask in.pbm out third",
+    "mask in.pbm out --rect 0,0,1,1",
+    "mask in.pbm out --kernel five",
+    "mask in.pbm out --levels -1",
+    "mask in.pbm out --levels 1 --levels 1",
+    "join",
+    "join in.pbm",
+    "join in.pbm out",
+    "join in.pbm --rect 0,0,1,1",
+    "join in.pbm out --rect 1,2,3",
+    "join in.pbm in.pbm out --kernel s",
+    "join in.pbm in.pbm out --into folder",
+    "join in.pbm out --rects s --rects s",
     "demo a b",
     "demo -",
     "help decode",
@@ -76,13 +95,14 @@ const WRONG: [&str; 38] = [
 fn wrong_usage() {
     let here = Folder::new();
     here.put("in.pgm", noise_picture(8, 8));
+    here.put("in.pbm", "P1 2 1 01");
     here.put("s", WORKED);
     for line in WRONG {
         let answer = here.run(line);
         assert_eq!(answer.status, 2, "{line}: {}", answer.said());
         assert!(answer.out.is_empty() && answer.err.contains("--help") || line.is_empty(), "{line}: {}", answer.err);
     }
-    assert_eq!(here.names(), ["in.pgm", "s"]);
+    assert_eq!(here.names(), ["in.pbm", "in.pgm", "s"]);
 }
 
 #[test]
@@ -134,6 +154,7 @@ fn quiet_says_nothing_but_failures() {
     let (mark, _) = two_rectangles(&here, "");
     here.put("in.pgm", "P2 2 2 200  1 2 3 4 ");
     here.put("part", &here.get("all.stream")[..mark - 1]);
+    here.put("in.pbm", "P1 2 1 01");
     for (line, status) in [
         ("-q encode in.pgm out", 0),
         ("encode -q in.pgm out", 0),
@@ -142,6 +163,8 @@ fn quiet_says_nothing_but_failures() {
         ("cut all.stream cut --mark -q", 0),
         ("show -q part part.pgm --frames", 1),
         ("compare in.pgm in.pgm -q", 0),
+        ("mask -q in.pbm mask.png", 0),
+        ("-q join in.pbm in.pbm joined.png", 0),
     ] {
         let answer = here.run(line);
         assert_eq!((answer.status, answer.said().as_str()), (status, ""), "{line}");

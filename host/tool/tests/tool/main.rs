@@ -1,6 +1,7 @@
 //! Runs the program on good files and bad ones. One module holds one promise: the exit status and the words are held to
 //! the help text, the files to what they should be byte by byte.
 
+mod bitmaps;
 mod broken_call;
 mod codec;
 mod conventions;

@@ -28,7 +28,8 @@ fn the_rectangle() {
         refused(&here, &format!("{encode} --rect {rectangle}"), &["in.pgm: refused 8: a rectangle", words]);
     }
     refused(&here, &format!("encode in.pgm out{}", " --rect 0,0,1,1".repeat(33)), &["refused 7", "(there are 33)"]);
-    refused(&here, "compare in.pgm in.pgm --rect 0,0,9,1", &["in.pgm: refused 8", "rectangle 1 of 1, 0,0,9,1"]);
+    let compare = "compare in.pgm in.pgm --rect 0,0,9,1";
+    refused(&here, compare, &["in.pgm: refused 8", "rectangle 1 of 1, 0,0,9,1", "; a rectangle is x,y,w,h or WxH+X+Y"]);
     let mut stream = WORKED.to_vec();
     stream[19] = 3;
     here.put("bad", stream);
@@ -185,6 +186,12 @@ fn files_that_cannot_be_used() {
         ("cut folder out --length 9", "folder: is a directory"),
         ("compare in.pgm folder", "folder: is a directory"),
         ("compare in.pgm in.pgm --stream missing", "missing: no such file"),
+        ("mask missing out", "missing: no such file"),
+        ("mask folder out", "folder: is a directory"),
+        ("mask empty out", "empty: the file is empty; PBM files"),
+        ("mask in.pgm out", "in.pgm: a PGM picture, not a bitmap"),
+        ("join folder in.pgm out", "folder: is a directory"),
+        ("join empty out --rect 0,0,1,1", "empty: the file is empty"),
         ("demo empty", "empty: "),
     ] {
         here.ends(line, 4, words);

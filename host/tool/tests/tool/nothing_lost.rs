@@ -128,6 +128,9 @@ fn a_device_without_room() {
     let here = Folder::new();
     here.put("s", WORKED);
     here.ends("show s /dev/full", 4, "/dev/full: no space left on device");
+    here.put("in.pbm", "P1 2 1 01");
+    here.ends("mask in.pbm /dev/full", 4, "/dev/full: no space left on device");
+    here.ends("join in.pbm in.pbm /dev/full", 4, "/dev/full: no space left on device");
     let full = fs::OpenOptions::new().write(true).open("/dev/full").unwrap();
     let status = here.program("show s -").stdout(full.try_clone().unwrap()).status().unwrap();
     assert_eq!(status.code(), Some(4));
@@ -184,8 +187,15 @@ fn a_refusal_leaves_the_old_file() {
     here.ends("show bad out", 3, "refused 12");
     here.ends("cut bad out --mark", 3, "refused 12");
     here.ends("encode bad out", 4, "bad: ");
+    here.put("in.pbm", "P1 2 1 01");
+    here.put("other.pbm", "P1 1 2 01");
+    here.ends("mask in.pbm out --levels 9", 3, "refused 2");
+    here.ends("mask bad out", 4, "bad: ");
+    here.ends("join in.pbm other.pbm out", 3, "refused 5");
+    here.ends("join in.pbm out --rect 2,0,1,1", 3, "refused 8");
+    here.ends("join in.pbm bad out", 4, "bad: ");
     assert_eq!(here.get("out"), b"old");
-    assert_eq!(here.names(), ["bad", "in.pgm", "out"]);
+    assert_eq!(here.names(), ["bad", "in.pbm", "in.pgm", "other.pbm", "out"]);
 }
 
 #[test]
@@ -206,6 +216,9 @@ fn input_and_output_that_are_the_same_file() {
     here.put("list", "0,0,1,1\n");
     here.ends("encode in.pgm list --rects list", 2, "list and list are the same file");
     here.ends("encode in.pgm in.pgm", 2, "in.pgm and in.pgm are the same file");
+    here.ends("mask s soft", 2, "s and soft are the same file");
+    here.ends("join in.pgm s folder/hard", 2, "s and folder/hard are the same file");
+    here.ends("join s list --rects list", 2, "list and list are the same file");
     assert_eq!(here.get("s"), WORKED);
     assert_eq!(here.get("list"), b"0,0,1,1\n");
 }

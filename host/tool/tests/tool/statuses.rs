@@ -73,6 +73,26 @@ fn of_an_encoder() {
 }
 
 #[test]
+fn of_a_bitmap() {
+    let here = Folder::new();
+    here.put("a.pbm", "P1 2 1 01");
+    here.put("b.pbm", "P1 1 2 01");
+    here.put("a.pgm", "P2 2 1 9  1 2 ");
+    here.ends("mask a.pbm out", 0, "1 of 2 samples inside");
+    here.ends("mask a.pbm out --levels 6", 3, "refused 2");
+    here.ends("mask a.pgm out2", 4, "a.pgm: a PGM picture, not a bitmap");
+    here.ends("mask none out2", 4, "none: no such file or directory");
+    here.ends("mask a.pbm none/out", 4, "none/out: no file can be made in none: no such file or directory");
+    here.ends("mask a.pbm", 2, "OUT");
+    here.ends("join a.pbm out joined", 0, "2 of 2 samples inside");
+    here.ends("join a.pbm b.pbm out2", 3, "refused 5");
+    here.ends("join a.pbm out2 --rect 0,0,3,1", 3, "refused 8");
+    here.ends("join a.pbm none out2", 4, "none: no such file or directory");
+    here.ends("join a.pbm out2", 2, "at least two parts");
+    assert_eq!(here.names(), ["a.pbm", "a.pgm", "b.pbm", "joined", "out"]);
+}
+
+#[test]
 fn the_worst_of_several_files_counts() {
     let here = Folder::new();
     here.put("exact", WORKED);
@@ -102,7 +122,19 @@ fn a_failure_at_one_file_does_not_stop_the_others() {
 #[test]
 fn help_tells_every_status() {
     let here = Folder::new();
-    for line in ["--help", "-h", "encode --help", "info -h", "cut --help", "show -h", "compare -h", "demo -h"] {
+    for line in [
+        "--help",
+        "-h",
+        "encode --help",
+        "info -h",
+        "cut --help",
+        "show -h",
+        "compare -h",
+        "mask -h",
+        "mask --help",
+        "join --help",
+        "demo -h",
+    ] {
         let answer = here.run(line);
         for words in
             ["  0  done", "  1  shown or told, but not exact", "  2  wrong usage", "  3  refused", "  4  input"]

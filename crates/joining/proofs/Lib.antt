@@ -1,0 +1,4 @@
+-- The laws of joining.
+pub mod Bytes
+pub mod Rectangles
+pub mod Laws
