@@ -5,9 +5,10 @@
 -- Assumes nothing: this is a definition.
 use mathlib.Core.Path.{_≡_}
 use mathlib.Core.List.{List}
-use Prim.Native.Nat.{ℕ, _<_, _≤_}
-use lib.ListN.{length, getD}
+use Prim.Native.Nat.{ℕ}
+use lib.ListN.{length}
+use Rattle.picture_mask.specs.Areas.{Binary}
 
 pub record Marks (n : ℕ) (l : List ℕ) : Type 0 where
   pub size : length l ≡ n
-  pub each : (i : ℕ) → i < n → getD l i 0 ≤ 1
+  pub marks : Binary l

@@ -2,6 +2,8 @@
 //! sample by sample.
 
 pub mod bitmap;
+#[cfg(test)]
+mod chance;
 mod other;
 mod pgm;
 mod png;

@@ -119,6 +119,7 @@ pub fn format_plain(picture: &Picture) -> Vec<u8> {
 #[cfg(test)]
 mod tests {
     use super::*;
+    use crate::chance::changed;
 
     fn refused(file: &[u8], word: &str) {
         let message = parse(file).expect_err("should be turned back");
@@ -253,23 +254,13 @@ mod tests {
 
     #[test]
     fn whatever_is_changed_is_parsed_or_turned_back() {
-        let mut state = 1u64;
-        let mut next = |below: usize| {
-            state = state.wrapping_mul(6364136223846793005).wrapping_add(1442695040888963407);
-            (state >> 33) as usize % below
-        };
         for file in [&b"P5 # c\n3 2\n255\n\x00\x01\x02\x03\x04\x05"[..], b"P2\n3 2\n#\n1023\n1 2 3\n1023 5 6\n"] {
-            for _ in 0..20_000 {
-                let mut changed = file.to_vec();
-                for _ in 0..=next(3) {
-                    let place = next(changed.len());
-                    changed[place] = b"0123456789 \n#P\xff\x00"[next(16)];
-                }
-                if let Ok(picture) = parse(&changed) {
+            changed(file, |changed| {
+                if let Ok(picture) = parse(changed) {
                     assert_eq!(picture.samples.len(), picture.width * picture.height);
                     assert!(picture.samples.iter().all(|&s| s <= picture.top));
                 }
-            }
+            });
         }
     }
 }

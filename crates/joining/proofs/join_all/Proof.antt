@@ -26,6 +26,6 @@ join-all-spec =
     (λ c. omega arith)
     (λ c. omega arith)
     (λ c. let l = c .before .before .before .loop in let s = c .before .before .before .before in
-    (omega arith, made-more (l .inv .1) (omega arith) (omega arith) (or-bytes _ _ (s .pre .0 .each (l .i) (omega arith)) (s .pre .1 .each (l .i) (omega arith)))))
+    (omega arith, made-more (l .inv .1) (omega arith) (omega arith) (or-bytes _ _ (s .pre .0 .marks .each (l .i)) (s .pre .1 .marks .each (l .i)))))
     (λ c. c .before .loop .inv .1 .size)
     (λ c. made-all (c .before .loop .inv .1) (omega arith)))

@@ -1,4 +1,5 @@
 use super::*;
+use crate::chance::chance;
 
 /// A chunk with its check sum, which the png crate works out behind a header of its own.
 fn chunk(name: &[u8; 4], data: &[u8]) -> Vec<u8> {
@@ -235,13 +236,9 @@ fn whatever_is_changed_is_turned_back_or_the_same_picture() {
 /// With check sums that fit, so that the decoder meets every kind of header and compressed data.
 #[test]
 fn whatever_a_header_says_is_parsed_or_turned_back() {
-    let mut state = 1u64;
-    let mut next = |below: u32| {
-        state = state.wrapping_mul(6364136223846793005).wrapping_add(1442695040888963407);
-        (state >> 33) as u32 % below
-    };
+    let mut next = chance();
     for _ in 0..4_000 {
-        let header = (next(9), next(9), [1, 2, 4, 8, 16, 3][next(6) as usize], next(3) as u8, next(3) as u8);
+        let header = (next(9) as u32, next(9) as u32, [1, 2, 4, 8, 16, 3][next(6)], next(3) as u8, next(3) as u8);
         let rows: Vec<u8> = (0..next(40)).map(|_| next(6) as u8).collect();
         let bits = [next(18) as u8];
         if let Ok(picture) = parse(&file(header, &[(b"sBIT", &bits)], &rows)) {
