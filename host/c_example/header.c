@@ -154,8 +154,8 @@ void check_version(void) {
     char text[16];
     snprintf(text, sizeof text, "%d.%d.%d", DHIIRQOBAAL_VERSION_MAJOR, DHIIRQOBAAL_VERSION_MINOR, DHIIRQOBAAL_VERSION_PATCH);
     expect(dhiirqobaal_version() == DHIIRQOBAAL_VERSION, "the library's version is the header's");
-    expect(DHIIRQOBAAL_VERSION == 10200, "the version's number");
-    expect(strcmp(DHIIRQOBAAL_VERSION_TEXT, text) == 0 && strcmp(text, "1.2.0") == 0, "the version's text");
+    expect(DHIIRQOBAAL_VERSION == 10300, "the version's number");
+    expect(strcmp(DHIIRQOBAAL_VERSION_TEXT, text) == 0 && strcmp(text, "1.3.0") == 0, "the version's text");
 }
 
 /* Each text speaks of what docs/FORMAT.md refuses under its number. */
@@ -163,10 +163,10 @@ void check_texts(void) {
     static const char *const words[] = {
         "accepted", "kernel", "levels J", "depth D", "4,096", "the picture or the area", "sample", "32 rectangles",
         "inside the picture", "mask byte", "2^22", "too short", "length field", "version", "T is above 22", "region mark",
-        "filling bit", "level r is above", "does not have"};
+        "filling bit", "level r is above", "does not have", "without a sample"};
     uint64_t number, other;
     int apart = 1;
-    for (number = 0; number <= 18; number++) {
+    for (number = 0; number <= 19; number++) {
         const char *text = dhiirqobaal_refusal_text(number);
         expect(strstr(text, words[number]) != NULL, words[number]);
         for (other = 0; other < number; other++) {
@@ -176,4 +176,5 @@ void check_texts(void) {
     expect(apart, "each number has a text of its own");
     expect(strcmp(dhiirqobaal_refusal_text(0), "accepted") == 0, "the text of 0");
     expect(strcmp(dhiirqobaal_refusal_text(UINT64_MAX), dhiirqobaal_refusal_text(18)) == 0, "the text of a number that is none");
+    expect(strcmp(dhiirqobaal_refusal_text(20), dhiirqobaal_refusal_text(18)) == 0, "the text of 20, which is none");
 }

@@ -6,6 +6,19 @@
 
 #define ROUNDS 2000
 
+/* Whether all samples of a shot, shown, have the number and the sum of its picture. */
+static int as_bright(const struct shot *shot, const uint16_t *shown) {
+    uint8_t all[MOST_CELLS];
+    uint64_t results[DHIIRQOBAAL_BRIGHTNESS_RESULTS], sum = 0;
+    size_t cells = shot->w * shot->h, i;
+    memset(all, 1, sizeof all);
+    for (i = 0; i < cells; i++) {
+        sum += shot->samples[i];
+    }
+    return dhiirqobaal_brightness(shot->w, shot->h, shown, cells, all, cells, results, DHIIRQOBAAL_BRIGHTNESS_RESULTS) == 0 &&
+           results[0] == cells && results[1] == sum && results[2] * cells + results[3] == sum && results[3] < cells;
+}
+
 /* From the picture to the stream and back, once; whether all is as worked. */
 static int there_and_back(const struct shot *shot) {
     int32_t plane[MOST_CELLS], undone[MOST_CELLS];
@@ -25,7 +38,7 @@ static int there_and_back(const struct shot *shot) {
            memcmp(joined, mask, cells) == 0 &&
            dhiirqobaal_undo(shot->kernel, shot->levels, shot->w, shot->h, plane, cells, undone, cells) == 0 &&
            dhiirqobaal_show(8, shot->w, shot->h, undone, cells, shown, cells) == 0 &&
-           memcmp(shown, shot->samples, cells * sizeof *shown) == 0 &&
+           memcmp(shown, shot->samples, cells * sizeof *shown) == 0 && as_bright(shot, shown) &&
            dhiirqobaal_show_stream(stream, length, shot->levels, plane, cells, mask, cells, undone, places, shown, places,
                                    results, 4) == 0 &&
            memcmp(undone, plane, places * sizeof *undone) == 0 &&

@@ -31,6 +31,7 @@ static void check_pictures(void) {
     const int32_t kept[4] = {-4, 0, 0, 0};
     uint16_t shown[4];
     uint8_t none[4] = {0, 0, 0, 0}, joined[4];
+    uint64_t results[4];
     expect(dhiirqobaal_region(numbers, 4, 2, 2, region, 4) == 0 && memcmp(region, corner, 4) == 0, "region");
     expect(dhiirqobaal_mask(0, 1, 2, 2, region, 4, mask, 4) == 0 && memcmp(mask, all, 4) == 0, "mask");
     expect(dhiirqobaal_join(2, 2, region, 4, none, 4, joined, 4) == 0 && memcmp(joined, corner, 4) == 0, "join");
@@ -39,6 +40,9 @@ static void check_pictures(void) {
     expect(dhiirqobaal_undo(0, 1, 2, 2, plane, 4, undone, 4) == 0, "undo");
     expect(dhiirqobaal_show(8, 2, 2, undone, 4, shown, 4) == 0, "show");
     expect(memcmp(shown, samples, sizeof shown) == 0, "samples");
+    expect(dhiirqobaal_brightness(2, 2, shown, 4, mask, 4, results, 4) == 0, "brightness");
+    expect(results[0] == 4 && results[1] == 25 && results[2] == 6 && results[3] == 1, "brightness: 10 7 4 4, 6 times 4 and 1");
+    expect(dhiirqobaal_brightness(2, 2, shown, 4, none, 4, results, 4) == 19, "brightness without a sample");
     expect(dhiirqobaal_show_level(0, 1, 1, 8, 2, 2, plane, 4, undone, 1, shown, 1) == 0 && shown[0] == 6, "show level 1");
     expect(dhiirqobaal_show_level(0, 1, 1, 8, 2, 2, plane, 4, undone, 4, shown, 4) == 5, "level 1 into four cells");
     expect(dhiirqobaal_show_level(0, 1, 2, 8, 2, 2, plane, 4, undone, 1, shown, 1) == 17, "level 2 of one");
@@ -240,6 +244,7 @@ int main(void) {
     check_arrived();
     check_header();
     check_joins();
+    check_brightness();
     check_levels();
     check_level_streams();
     check_version();

@@ -36,6 +36,7 @@ extern const size_t widths[WIDTHS];
 
 /* Each in a file of its own. */
 void check_arrived(void);
+void check_brightness(void);
 void check_header(void);
 void check_joins(void);
 void check_levels(void);

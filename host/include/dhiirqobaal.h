@@ -19,6 +19,9 @@
  *   region     one byte a sample: 1 inside any rectangle, else 0
  *   mask       one byte a coefficient: 1 for those that make the region's samples exact (the marked ones), else 0
  *   joined     of two regions, or of two masks, byte by byte: 1 where either has a 1, else 0
+ *   brightness  of a region in a shown picture, four whole numbers: how many samples the region has, their sum, and the
+ *              quotient and the remainder of the sum by their number; the remainder is below the number, and quotient
+ *              times number plus remainder is the sum
  *   plane      the coefficients of a picture; an accepted one has magnitudes below 2^22 alone
  *   undone     what undoing a plane gives, all of its levels or the deepest: whole numbers of either sign, not yet
  *              brought into range
@@ -76,7 +79,8 @@
  *   15  the wanted length is below the region mark or above the stream's length, or the marked part is not whole
  *   16  behind a complete body the stream has a filling bit that is not 0, or a further byte
  *   17  r above J
- * The order over all calls is 12, 13, 1, 2, 17, 3, 4, 7, 8, 14, 5, 6, 9, 10, 16, 15, 11.
+ *   19  a region without a sample: no byte of it is 1
+ * The order over all calls is 12, 13, 1, 2, 17, 3, 4, 7, 8, 14, 5, 6, 9, 19, 10, 16, 15, 11.
  *
  * Under a refusal every output buffer other than results holds what it held, with these exceptions alone:
  *   16  dhiirqobaal_read, dhiirqobaal_show_stream and dhiirqobaal_cut: plane and mask are all 0
@@ -150,6 +154,17 @@
  * joined without a refusal, and what they give is of no use. dhiirqobaal_truncate takes a joined mask;
  * dhiirqobaal_write takes the rectangles, at most 32, and makes the mask of all of them itself.
  *
+ * LOGGING HOW BRIGHT A LAMP IS
+ * dhiirqobaal_brightness gives the brightness of a region in a shown picture, and rounds nothing, so that logs add up.
+ * Of two regions of one picture that have no sample in common, the two numbers of samples added are the number of both
+ * regions joined (dhiirqobaal_join), and the two sums added are its sum. A sample that both have would count twice.
+ * Quotients and remainders do not add up: those of both regions are the added sum divided by the added number.
+ * Cut to any length from its region mark to its own, a stream that is accepted with its marked part whole shows each
+ * sample in its rectangles as it does uncut. So every region inside the rectangles has the same brightness in the cut
+ * stream as in the whole one and, where that was written from the plane of an accepted picture with the kernel, J, D, W
+ * and H under which it was transformed, as in the picture. Of a region that reaches out of the rectangles, or where
+ * results[DHIIRQOBAAL_READ_WHOLE] is 0, it is the brightness of what arrived.
+ *
  * THE LINK
  * The bytes must arrive unchanged, in their order, none left out. The format has no check sum: a changed bit is read as
  * it stands, and mostly no refusal and no result number tells of it. Where the link can change or lose bytes, send the
@@ -199,11 +214,11 @@ extern "C" {
 
 /* The version: of this header, and by dhiirqobaal_version of the library. 10,000 major + 100 minor + patch. */
 #define DHIIRQOBAAL_VERSION_MAJOR 1
-#define DHIIRQOBAAL_VERSION_MINOR 2
+#define DHIIRQOBAAL_VERSION_MINOR 3
 #define DHIIRQOBAAL_VERSION_PATCH 0
 #define DHIIRQOBAAL_VERSION \
     (10000 * DHIIRQOBAAL_VERSION_MAJOR + 100 * DHIIRQOBAAL_VERSION_MINOR + DHIIRQOBAAL_VERSION_PATCH)
-#define DHIIRQOBAAL_VERSION_TEXT "1.2.0"
+#define DHIIRQOBAAL_VERSION_TEXT "1.3.0"
 
 /* The limits. */
 #define DHIIRQOBAAL_MAX_SIDE 4096
@@ -226,6 +241,7 @@ extern "C" {
 #define DHIIRQOBAAL_STACK_UNDO 20480
 #define DHIIRQOBAAL_STACK_SHOW 1024
 #define DHIIRQOBAAL_STACK_SHOW_LEVEL 20480
+#define DHIIRQOBAAL_STACK_BRIGHTNESS 1024
 #define DHIIRQOBAAL_STACK_TRUNCATE 1024
 #define DHIIRQOBAAL_STACK_WRITE 40960
 #define DHIIRQOBAAL_STACK_READ 40960
@@ -255,7 +271,17 @@ enum dhiirqobaal_refusal {
     DHIIRQOBAAL_BAD_PLANES = 14,
     DHIIRQOBAAL_BAD_CUT = 15,
     DHIIRQOBAAL_BAD_FILLING = 16,
-    DHIIRQOBAAL_BAD_LEVEL = 17
+    DHIIRQOBAAL_BAD_LEVEL = 17,
+    DHIIRQOBAAL_NO_SAMPLE = 19
+};
+
+/* Where dhiirqobaal_brightness stores its result numbers. */
+enum dhiirqobaal_brightness_result {
+    DHIIRQOBAAL_BRIGHTNESS_NUMBER = 0,    /* number of the region's samples */
+    DHIIRQOBAAL_BRIGHTNESS_SUM = 1,       /* their sum */
+    DHIIRQOBAAL_BRIGHTNESS_QUOTIENT = 2,  /* the sum divided by the number, without what is left */
+    DHIIRQOBAAL_BRIGHTNESS_REMAINDER = 3, /* what is left, below the number */
+    DHIIRQOBAAL_BRIGHTNESS_RESULTS = 4    /* how many they are */
 };
 
 /* Where dhiirqobaal_write stores its result numbers. */
@@ -316,8 +342,8 @@ enum dhiirqobaal_header_result {
 };
 
 /*
- * The meaning of a refusal's number, 1 to 17, as a text; that of 0 is "accepted". It never returns null, whatever the
- * number, and the text is not to be freed or changed.
+ * The meaning of a refusal's number, 1 to 17 and 19, as a text; that of 0 is "accepted". It never returns null,
+ * whatever the number, and the text is not to be freed or changed.
  */
 static inline const char *dhiirqobaal_refusal_text(uint64_t number)
 {
@@ -340,6 +366,7 @@ static inline const char *dhiirqobaal_refusal_text(uint64_t number)
     case 15: return "the wanted length is below the region mark or above the stream's length, or the marked part is not whole";
     case 16: return "behind the complete body there is a filling bit that is not 0, or a further byte";
     case 17: return "the level r is above the levels J";
+    case 19: return "the region is without a sample";
     default: return "a number that the interface does not have";
     }
 }
@@ -435,6 +462,20 @@ uint64_t dhiirqobaal_show(size_t depth, size_t w, size_t h, const int32_t *undon
 uint64_t dhiirqobaal_show_level(size_t kernel, size_t levels, size_t r, size_t depth, size_t w, size_t h,
                                 const int32_t *plane, size_t plane_len, int32_t *undone, size_t undone_len,
                                 uint16_t *shown, size_t shown_len);
+
+/*
+ * The brightness of a region in a shown picture.
+ *   w, h     W and H
+ *   picture  W * H samples, any 16-bit numbers: no depth is given
+ *   region   W * H bytes, each 0 or 1; it need not consist of rectangles
+ *   results  0 number of the region's samples, 1 their sum, 2 quotient of the sum by the number, 3 remainder
+ * Refusals in their order: 4, 5 (picture or region), 9 (region), 19.
+ * Accepted: the number is at least 1, the remainder is below it, and quotient * number + remainder is the sum, which is
+ * at most 1,099,494,850,560. Under each refusal all four result numbers are 0. Picture and region are not written.
+ * It needs at most 1,024 bytes of stack, DHIIRQOBAAL_STACK_BRIGHTNESS.
+ */
+uint64_t dhiirqobaal_brightness(size_t w, size_t h, const uint16_t *picture, size_t picture_len, const uint8_t *region,
+                                size_t region_len, uint64_t *results, size_t results_len);
 
 /*
  * Drops the lowest q planes of every unmarked coefficient, in place.
@@ -586,7 +627,7 @@ uint64_t dhiirqobaal_arrived(uint8_t *stream, size_t stream_len, uint64_t *resul
 uint64_t dhiirqobaal_header(const uint8_t *stream, size_t stream_len, uint64_t *results, size_t results_len);
 
 /*
- * The library's version, 10,000 major + 100 minor + patch: 10200 for 1.2.0. A program that was compiled with the header
+ * The library's version, 10,000 major + 100 minor + patch: 10300 for 1.3.0. A program that was compiled with the header
  * of the same version finds it equal to DHIIRQOBAAL_VERSION. It takes nothing and refuses nothing.
  * It needs at most 1,024 bytes of stack, DHIIRQOBAAL_STACK_VERSION.
  */

@@ -67,6 +67,12 @@ static uint64_t call_join(size_t kernel)
     return dhiirqobaal_join(width, height, region, cells, mask, cells, joined, cells);
 }
 
+static uint64_t call_brightness(size_t kernel)
+{
+    (void)kernel;
+    return dhiirqobaal_brightness(width, height, shown, cells, region, cells, results, DHIIRQOBAAL_BRIGHTNESS_RESULTS);
+}
+
 static uint64_t call_truncate(size_t kernel)
 {
     (void)kernel;
@@ -140,6 +146,7 @@ struct function functions[] = {
     {"region", DHIIRQOBAAL_STACK_REGION, call_region, 0, 0, 0},
     {"mask", DHIIRQOBAAL_STACK_MASK, call_mask, 0, 0, 0},
     {"join", DHIIRQOBAAL_STACK_JOIN, call_join, 0, 0, 0},
+    {"brightness", DHIIRQOBAAL_STACK_BRIGHTNESS, call_brightness, 0, 0, 0},
     {"truncate", DHIIRQOBAAL_STACK_TRUNCATE, call_truncate, 0, 0, 0},
     {"write", DHIIRQOBAAL_STACK_WRITE, call_write, 0, 0, 0},
     {"arrived", DHIIRQOBAAL_STACK_ARRIVED, call_arrived, 0, 0, 0},

@@ -17,11 +17,12 @@ from collections import namedtuple
 
 ROOT = os.path.dirname(os.path.dirname(os.path.dirname(os.path.abspath(__file__))))
 PAGE = 'docs/READING.md'
-ENTRIES = [('wavelet', 'transform'), ('wavelet', 'undo'), ('region', 'region'), ('picture_mask', 'mask'), ('joining', 'join'), ('samples', 'show'),
+ENTRIES = [('wavelet', 'transform'), ('wavelet', 'undo'), ('region', 'region'), ('picture_mask', 'mask'), ('joining', 'join'), ('brightness', 'brightness'), ('samples', 'show'),
            ('level_picture', 'show_level'), ('samples', 'truncate'), ('encoder', 'write'), ('decoder', 'read'), ('cutter', 'cut'), ('header', 'body'),
            ('header_reader', 'read_header'), ('header', 'arrived'), ('showing', 'show_stream'),
            ('showing_limited', 'show_limited')]
-THEOREMS = [('exactness', 'Demands', ['Demand2', 'Demand3', 'Arrived', 'SmallPicture']), ('joining', 'Laws', ['Joining'])]
+THEOREMS = [('exactness', 'Demands', ['Demand2', 'Demand3', 'Arrived', 'SmallPicture', 'LampBrightness']), ('joining', 'Laws', ['Joining']),
+            ('brightness', 'Laws', ['Brightness'])]
 KIT = [
     ('ℕ, zero, suc', 'natural numbers; `suc n` is n + 1'),
     ('_+_, _*_, _^_, min, max', 'as usual, on natural numbers'),
@@ -42,7 +43,7 @@ KIT = [
 LANGUAGE = '''`abbrev` and `unfoldable` begin a definition and say how the checker treats it; `λ x. e` is the function that gives e for x. A `use` of
 `Rattle.grid.specs.Picture` is of `crates/grid/specs/Picture.antt`; `specs.declared.Kernel` is the type `Kernel` of the crate's `src/lib.rt`. In a
 contract, `now (b .entry)` and `now (b .exit)` are what the buffer b holds before and after the call, r is what the call returns.'''
-PROMISES = 'The records of demands 2 and 3, of what arrived, of the small picture and of joining, and the contracts of demand 1, none of which has a `requires`.'
+PROMISES = 'The records of demands 2 and 3, of what arrived, of the small picture, of joining and of brightness, and the contracts of demand 1, none of which has a `requires`.'
 INNER = '''These files of `specs/` hold what only the contracts of inner functions, proofs and worked examples cite. No promise depends on them: a
 wrong definition there can make a proof fail, not a promise hollow.'''
 

@@ -1,14 +1,15 @@
 -- A class that has no member: its passes read nothing, write nothing, and are missed only past the end. Assumes nothing.
 use mathlib.Core.Path.{_≡_, refl, ap, _∙_}
-use mathlib.Core.Bool.{Bool, true, false, not}
+use mathlib.Core.Bool.{Bool, true, false}
 use mathlib.Core.List.{List, []}
 use Prim.Native.Nat.{ℕ, zero, suc, _+_, _<_, _≤_}
 use native.Mathlib.Omega.{arith}
 use lib.Dec.{leb}
 use lib.IntN.{ℤ}
 use lib.ListN.{length, getD}
-use Rattle.line.specs.Cells.{choose, count}
+use Rattle.line.specs.Cells.{choose, total, count}
 use Rattle.line.proofs.Cells.{by-lt, by-bool}
+use Rattle.line.proofs.Counts.{count-parted}
 use Rattle.bitplane.specs.Body.{class, onePlane, planes, passBits, body}
 use Rattle.bitplane.specs.Reader.{Received, Reading, place, pass, read, missing}
 use Rattle.bitplane.proofs.Classes.{class-past, classes-apart}
@@ -58,7 +59,7 @@ module _ (Z : ℕ → ℤ) (on : ℕ → Bool) where
 
 -- ---- which class has no member, by the number of marks
 pub count-none : (n : ℕ) (on : ℕ → Bool) → count n on ≡ 0 → (i : ℕ) → i < n → on i ≡ false
-unfolding count
+unfolding count total
 count-none zero on e i h = absurd (omega arith)
 count-none (suc n) on e i h = by-lt i n
     (count-none n on (omega arith) i)
@@ -69,11 +70,5 @@ module _ (mask : List ℕ) where
   class-empty c h e i = by-lt i (length mask) (count-none (length mask) (class mask c) e i) (class-past mask c i h)
 
   module _ (marks : (i : ℕ) → i < length mask → getD mask i 2 < 2) where
-    one-of : (b : Bool) → choose {A = ℕ} (not b) 1 0 + choose b 1 0 ≡ 1
-    one-of true = refl
-    one-of false = refl
-
     pub classes-count : (n : ℕ) → n ≤ length mask → count n (class mask 0) + count n (class mask 1) ≡ n
-    unfolding count
-    classes-count zero h = refl
-    classes-count (suc n) h = rw (classes-apart mask n (marks n (omega arith))) (omega (arith, classes-count n (omega arith), one-of (class mask 1 n)))
+    classes-count n h = omega (arith, count-parted (class mask 1) (class mask 0) n (λ i lt. classes-apart mask i (marks i (omega arith))))

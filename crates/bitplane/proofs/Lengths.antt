@@ -9,7 +9,7 @@ use lib.Dec.{ltb}
 use lib.IntN.{ℤ, natAbs}
 use lib.ListN.{length, length-append}
 use borrow.Author.Tests.{lt-ltb}
-use Rattle.line.specs.Cells.{choose, count}
+use Rattle.line.specs.Cells.{choose, total, count}
 use Rattle.bitplane.specs.Bits.{sign}
 use Rattle.bitplane.specs.Inner.{nonzero}
 use Rattle.bitplane.specs.Body.{onePlane, planes, signAfter, code, passBits, body}
@@ -33,7 +33,7 @@ module _ (on : ℕ → Bool) (Z : ℕ → ℤ) where
   code-length t z false = refl
 
   pass-length : (t n : ℕ) → length (passBits (onePlane on t) Z n) + count n (begun on Z (suc t)) ≡ count n on + count n (begun on Z t)
-  unfolding passBits count
+  unfolding passBits count total
   pass-length t zero = refl
   pass-length t (suc n) = rw length-append (omega (arith, pass-length t n, code-length t (Z n) (on n)))
 
@@ -43,7 +43,7 @@ module _ (on : ℕ → Bool) (Z : ℕ → ℤ) where
   planes-length (suc t) n = rw (length-append, suc-mul) (omega (arith, pass-length t n, planes-length t n))
 
   none-begun : (T n : ℕ) → ((i : ℕ) → natAbs (Z i) < 2 ^ T) → count n (begun on Z T) ≡ 0
-  unfolding count
+  unfolding count total
   none-begun T zero s = refl
   none-begun T (suc n) s = rw (div-eq-of-lt (s n), none-begun T n s) (flat (on n))
     where
@@ -52,7 +52,7 @@ module _ (on : ℕ → Bool) (Z : ℕ → ℤ) where
       flat false = refl
 
   not-zero : (n : ℕ) → count n (begun on Z 0) ≡ count n (nonzero on Z)
-  unfolding count
+  unfolding count total
   not-zero zero = refl
   not-zero (suc n) = rw (div-one, not-zero n)
 

@@ -10,6 +10,8 @@ use native.Mathlib.Omega.{arith}
 use lib.IntN.{ℤ, pos}
 use lib.ListN.{length, getD, take}
 use borrow.Author.Tests.{eqb-true, not-false}
+use Rattle.line.specs.Cells.{listed}
+use Rattle.line.proofs.Lists.{is-listed}
 use Rattle.grid.specs.Picture.{side, walk}
 use Rattle.grid.proofs.Passes.{cell-of}
 use Rattle.bitplane.specs.Reader.{Answer}
@@ -18,6 +20,7 @@ use Rattle.refusal.specs.Tests.{badKernel, badLevels, badDepth, badSize, badLen
 use Rattle.refusal.proofs.Ordered.{passes-test}
 use Rattle.refusal.proofs.Passed.{Sides, sides, samples}
 use Rattle.wavelet.specs.Wavelet.{transformTests}
+use Rattle.brightness.specs.Brightness.{brightnessNumbers}
 use Rattle.samples.specs.Samples.{inRange}
 use Rattle.header.specs.Fields.{Shot, shotOf}
 use Rattle.header.specs.Arrival.{cutTo, arrivedOf}
@@ -29,10 +32,11 @@ use Rattle.codestream.proofs.Parts.{Parts, stream-parts, stream-length}
 use Rattle.codestream.proofs.Bodies.{body-whole}
 use Rattle.codestream.proofs.Cuts.{Cuttable}
 use Rattle.codestream.proofs.RoundTrip.{answer-read, tests-read, plane-read}
-use Rattle.exactness.specs.Shown.{shownAt, inRegionAt, planeFor, levelArea, levelNumberAt, levelSampleAt, ownNumber, inLevelAt}
+use Rattle.exactness.specs.Shown.{shownAt, inRegionAt, planeFor, brightnessOf, RegionInside, levelArea, levelNumberAt, levelSampleAt, ownNumber, inLevelAt}
 use Rattle.exactness.proofs.Levels.{number-at, area-full, number-own}
 use Rattle.exactness.proofs.Regions.{numberOf}
 use Rattle.exactness.proofs.Cuts.{level-cut, level-shown, every-cut, arrived-is}
+use Rattle.exactness.proofs.Brightness.{alike-of, of-shot, bright-cut}
 use Rattle.exactness.proofs.Written.{stream-bytes}
 
 -- a sample in range is shown as it is
@@ -127,3 +131,17 @@ module _ (k J D W H : ℕ) (rs samples : List ℕ) (p m n : ℕ) (ok : accepted 
   pub captured-arrived : (c : ℕ) → regionMark s plane ≤ c → c ≤ totalLength s plane → (i : ℕ) → i < W * H → inRegionAt s i ≡ true → shownAt (arrivedOf (take c x)) i ≡ getD samples i 0
   captured-arrived c low high i h t =
       ap (λ (l : List ℕ). shownAt l i) (arrived-is x (area s) (area s) c (stream-bytes s plane) (cuttable c low high)) ∙ captured-cut c low high i h t
+
+  -- its brightness
+  samples-listed : (region : List ℕ) → brightnessNumbers W H (listed (W * H) (λ i. getD samples i 0)) region ≡ brightnessNumbers W H samples region
+  samples-listed region = ap (λ (l : List ℕ). brightnessNumbers W H l region) (sym (is-listed (W * H) (λ i. getD samples i 0) 0 samples (q .full) (λ i h. refl)))
+
+  pub bright-whole : (region : List ℕ) → brightnessOf x region ≡ brightnessNumbers W H samples region
+  bright-whole region =
+      of-shot x s (parts .shot) region ∙ alike-of s (shownAt x) (λ i. getD samples i 0) region (λ i h t. captured i h) ∙ samples-listed region
+
+  pub bright-captured : (c : ℕ) → regionMark s plane ≤ c → c ≤ totalLength s plane → (region : List ℕ) → RegionInside s region
+      → brightnessOf (cutTo x c) region ≡ brightnessNumbers W H samples region
+  bright-captured c low high region inside =
+      bright-cut x (area s) (area s) c (stream-bytes s plane) (cuttable c low high) region (subst (λ (u : Shot). RegionInside u region) (sym (parts .shot)) inside)
+      ∙ bright-whole region

@@ -1,4 +1,4 @@
--- The proofs of demands 2 and 3, of what arrived and of the small picture, each part from the theorem that proves it. Assumes nothing.
+-- The proofs of demands 2 and 3, of what arrived, of the small picture and of the brightness of what is shown, each part from the theorem that proves it. Assumes nothing.
 use mathlib.Core.Path.{_≡_, sym, ap, subst}
 use mathlib.Core.Bool.{true}
 use Prim.Native.Nat.{_≤_}
@@ -13,11 +13,12 @@ use Rattle.codestream.proofs.RoundTrip.{read-back}
 use Rattle.codestream.proofs.Cuts.{Cuttable}
 use Rattle.codestream.proofs.Arrivals.{arrived-cut, arrived-numbers}
 use Rattle.exactness.specs.Shown.{levelArea, streamTests}
-use Rattle.exactness.specs.Demands.{Demand2, Demand3, Arrived, SmallPicture}
+use Rattle.exactness.specs.Demands.{Demand2, Demand3, Arrived, SmallPicture, LampBrightness}
 use Rattle.exactness.proofs.Levels.{number-full, tests-full, level-few, some-width, number-lowest, numbers-agree}
 use Rattle.exactness.proofs.Streams.{stream-taken}
 use Rattle.exactness.proofs.Cuts.{every-cut, cutter-exact, arrived-is, level-cut, level-shown}
-use Rattle.exactness.proofs.Captured.{captured, captured-cut, captured-arrived, level-captured, level-captured-shown, level-captured-cut, level-captured-cut-shown}
+use Rattle.exactness.proofs.Brightness.{bright-cut}
+use Rattle.exactness.proofs.Captured.{captured, captured-cut, captured-arrived, level-captured, level-captured-shown, level-captured-cut, level-captured-cut-shown, bright-whole, bright-captured}
 
 pub demand-2 : Demand2
 demand-2 = record {
@@ -64,4 +65,11 @@ small-picture = record {
       (level-captured k J D W H rs samples p m n ok written r few i h, level-captured-shown k J D W H rs samples p m n ok written r few i h);
   captured = λ k J D W H rs samples p m n ok written c low high r few i h t.
       (level-captured-cut k J D W H rs samples p m n ok written c low high r few i h t, level-captured-cut-shown k J D W H rs samples p m n ok written c low high r few i h t);
+}
+
+pub lamp-brightness : LampBrightness
+lamp-brightness = record {
+  cuts = λ l n m c bytes read whole low high region inside. bright-cut l n m c bytes (record { read = read; whole = whole; low = low; high = high }) region inside;
+  whole = bright-whole;
+  captured = bright-captured;
 }

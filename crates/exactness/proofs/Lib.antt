@@ -4,6 +4,7 @@ pub mod Levels
 pub mod Regions
 pub mod Cuts
 pub mod Streams
+pub mod Brightness
 pub mod Written
 pub mod Captured
 pub mod Demands

@@ -47,7 +47,14 @@
 --              where the stream was written from the plane of an accepted picture, it shows the picture's own transform with r levels, and each cut shows
 --              what level r's mask marks of it
 --
--- Assumes nothing: these are definitions. `proofs/Demands.antt` proves Demand2, Demand3, Arrived and SmallPicture.
+--   LampBrightness == the brightness of what is shown, all result numbers of the call, refusals too:
+--     cuts     a stream of bytes that the reader accepts with its marked part whole, cut to whichever length from its region mark to its own, gives for
+--              every region inside its own what it gives uncut
+--     whole, captured
+--              where the stream was written from the plane of an accepted picture, it gives for every region what the picture gives, and so does each cut
+--              for every region inside the stream's own
+--
+-- Assumes nothing: these are definitions. `proofs/Demands.antt` proves Demand2, Demand3, Arrived, SmallPicture and LampBrightness.
 use mathlib.Core.Path.{_≡_}
 use mathlib.Core.Logic.{_≢_}
 use mathlib.Core.Bool.{Bool, true, false, _&&_}
@@ -64,6 +71,7 @@ use Rattle.plane.specs.Plane.{transformed, undone, maskOf, levelMask, levelPict
 use Rattle.plane.specs.Counts.{places, differs}
 use Rattle.refusal.specs.Numbers.{first, accepted}
 use Rattle.wavelet.specs.Wavelet.{coefficientsOf, undoneNumber, transformTests, undoTests}
+use Rattle.brightness.specs.Brightness.{brightnessNumbers}
 use Rattle.samples.specs.Samples.{inRange, showTests}
 use Rattle.level_picture.specs.Level.{levelNumber, levelSample, levelTests}
 use Rattle.header.specs.Header.{frontLength, badHeader}
@@ -74,7 +82,7 @@ use Rattle.codestream.specs.Stream.{area, regionMark, totalLength, stream}
 use Rattle.codestream.specs.Writing.{shotFor, writeTests}
 use Rattle.codestream.specs.Reading.{answerOf, planeOf, readTests, readNumbers, ReadBack}
 use Rattle.codestream.specs.Cutting.{cutTests, Bytes}
-use Rattle.exactness.specs.Shown.{undoneAt, shownAt, inRegionAt, planeFor, levelArea, levelNumberAt, levelSampleAt, ownNumber, inLevelMask, inLevelAt, streamTests}
+use Rattle.exactness.specs.Shown.{undoneAt, shownAt, inRegionAt, planeFor, brightnessOf, RegionInside, levelArea, levelNumberAt, levelSampleAt, ownNumber, inLevelMask, inLevelAt, streamTests}
 
 pub record Demand2 : Type 0 where
   pub picture-back : (k : Kernel) (J W H : ℕ) (P : Picture ℤ) → undone k J W H (transformed k J W H P) ≡ P
@@ -144,3 +152,14 @@ pub record SmallPicture : Type 0 where
       accepted (transformTests k J D W H samples p) ≡ true → accepted (writeTests s plane m n) ≡ true
       → (c : ℕ) → regionMark s plane ≤ c → c ≤ totalLength s plane → (r : ℕ) → r ≤ J → (i : ℕ) → i < levelArea r s → inLevelAt r s i ≡ true
       → (levelNumberAt r (cutTo (stream s plane) c) i ≡ ownNumber k r W H samples i) × (levelSampleAt r (cutTo (stream s plane) c) i ≡ inRange D (ownNumber k r W H samples i))
+
+pub record LampBrightness : Type 0 where
+  pub cuts : (l : List ℕ) (n m c : ℕ) → Bytes l → accepted (readTests l n m) ≡ true → answerOf l .whole ≡ true → answerOf l .regionMark ≤ c → c ≤ length l
+      → (region : List ℕ) → RegionInside (shotOf l) region → brightnessOf (cutTo l c) region ≡ brightnessOf l region
+  pub whole : (k J D W H : ℕ) (rs samples : List ℕ) (p m n : ℕ) → let plane = planeFor k J W H samples in let s = shotFor k J D W H rs plane in
+      accepted (transformTests k J D W H samples p) ≡ true → accepted (writeTests s plane m n) ≡ true
+      → (region : List ℕ) → brightnessOf (stream s plane) region ≡ brightnessNumbers W H samples region
+  pub captured : (k J D W H : ℕ) (rs samples : List ℕ) (p m n : ℕ) → let plane = planeFor k J W H samples in let s = shotFor k J D W H rs plane in
+      accepted (transformTests k J D W H samples p) ≡ true → accepted (writeTests s plane m n) ≡ true
+      → (c : ℕ) → regionMark s plane ≤ c → c ≤ totalLength s plane → (region : List ℕ) → RegionInside s region
+      → brightnessOf (cutTo (stream s plane) c) region ≡ brightnessNumbers W H samples region

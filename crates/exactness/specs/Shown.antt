@@ -4,6 +4,9 @@
 --   shownAt l i              == the shown sample at place i
 --   inRegionAt s i           == place i of the picture is in the region of the shot s
 --   planeFor k J W H samples == the plane of a picture, row by row
+--   shownOf l                == the shown samples, row by row
+--   brightnessOf l region    == the result numbers of the brightness of a region of them
+--   RegionInside s region    == each sample of the region is in the region of the shot s
 --
 --   The same at level r, on the area that r levels leave:
 --   levelArea r s            == how many places the area of the shot s has
@@ -18,10 +21,12 @@
 --                               n, m, u and s are the lengths of the buffers for plane, mask, undone numbers and shown samples
 --
 -- Assumes nothing: these are definitions.
-use mathlib.Core.Bool.{Bool}
+use mathlib.Core.Path.{_≡_}
+use mathlib.Core.Bool.{Bool, true}
 use mathlib.Core.List.{List, [], _∷_, _++_}
-use Prim.Native.Nat.{ℕ, _/_, _%_, _*_}
+use Prim.Native.Nat.{ℕ, _/_, _%_, _*_, _<_}
 use lib.IntN.{ℤ}
+use lib.ListN.{getD}
 use Rattle.kernel.specs.Kernels.{theKernel}
 use Rattle.line.specs.Cells.{listed}
 use Rattle.grid.specs.Picture.{Picture, side}
@@ -30,11 +35,13 @@ use Rattle.refusal.specs.Numbers.{Test, test}
 use Rattle.refusal.specs.Tests.{badKernel, badLevels, badLevel, badDepth, badSize}
 use Rattle.wavelet.specs.Wavelet.{samplesOf, undoneNumber, coefficient}
 use Rattle.region.specs.Region.{inRegion}
+use Rattle.brightness.specs.Brightness.{Numbers, brightnessNumbers}
 use Rattle.samples.specs.Samples.{inRange}
 use Rattle.level_picture.specs.Level.{levelNumber, badArea}
 use Rattle.header.specs.Header.{bodyTests}
 use Rattle.header.specs.Fields.{Shot, shotOf}
 use Rattle.shot.specs.Shots.{drawn}
+use Rattle.codestream.specs.Stream.{area}
 use Rattle.codestream.specs.Reading.{planeOf, shotTests, bufferTests}
 
 abbrev pub undoneAt : List ℕ → ℕ → ℤ
@@ -48,6 +55,15 @@ inRegionAt s i = inRegion (s .rectangles) (i % s .width) (i / s .width)
 
 abbrev pub planeFor : ℕ → ℕ → ℕ → ℕ → List ℕ → List ℤ
 planeFor k J W H samples = listed (W * H) (coefficient k J W H samples)
+
+abbrev pub shownOf : List ℕ → List ℕ
+shownOf l = listed (area (shotOf l)) (shownAt l)
+
+abbrev pub brightnessOf : List ℕ → List ℕ → Numbers
+brightnessOf l region = brightnessNumbers (shotOf l .width) (shotOf l .height) (shownOf l) region
+
+abbrev pub RegionInside : Shot → List ℕ → Type 0
+RegionInside s region = (i : ℕ) → i < area s → getD region i 0 ≡ 1 → inRegionAt s i ≡ true
 
 abbrev pub levelArea : ℕ → Shot → ℕ
 levelArea r s = side r (s .width) * side r (s .height)

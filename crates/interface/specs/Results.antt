@@ -1,16 +1,17 @@
 -- The result numbers of a call in the caller's array, which may have any length (docs/FORMAT.md, "Calls").
 --
---   GivenAt at vs l l′ == l′ is l with the numbers vs from place `at` on, as far as it reaches
---   Given vs l l′      == that, from the first place on
---   writeResults n     == of `write`: total length (under 11 the needed one), region mark, number of marks
---   bodyNumbers n      == of `read`: marks, whole (1 or 0), region mark, q
---   headerNumbers s    == kernel, J, D, W, H, T, k, of the header
---   shotResults s      == of `header`: these, and 128 rectangle numbers, 0 behind the last
---   readResults n s    == of `read`: the body's numbers, and these
---   cutResults n       == of `cut`: the length (under 11 the needed one)
---   bodyResults l      == of `body`: where the body begins in the stream, and its length
---   arrivalResults n   == of `arrived`: the length that was sent
---   libraryVersion     == of `version`: 10,000 times the major number, 100 times the minor one, and the patch
+--   GivenAt at vs l l′  == l′ is l with the numbers vs from place `at` on, as far as it reaches
+--   Given vs l l′       == that, from the first place on
+--   writeResults n      == of `write`: total length (under 11 the needed one), region mark, number of marks
+--   bodyNumbers n       == of `read`: marks, whole (1 or 0), region mark, q
+--   headerNumbers s     == kernel, J, D, W, H, T, k, of the header
+--   shotResults s       == of `header`: these, and 128 rectangle numbers, 0 behind the last
+--   readResults n s     == of `read`: the body's numbers, and these
+--   cutResults n        == of `cut`: the length (under 11 the needed one)
+--   bodyResults l       == of `body`: where the body begins in the stream, and its length
+--   arrivalResults n    == of `arrived`: the length that was sent
+--   brightnessResults n == of `brightness`: number, sum, quotient, remainder
+--   libraryVersion      == of `version`: 10,000 times the major number, 100 times the minor one, and the patch
 --
 -- Assumes nothing: these are definitions.
 use mathlib.Core.Path.{_≡_}
@@ -22,6 +23,7 @@ use Rattle.refusal.specs.Numbers.{accepted}
 use Rattle.header.specs.Header.{frontLength, bodyTests, bodyOf}
 use Rattle.header.specs.Fields.{Shot}
 use Rattle.header.specs.Arrival as arrival
+use Rattle.brightness.specs.Brightness as brightness
 use Rattle.codestream.specs.Writing as writing
 use Rattle.codestream.specs.Reading as reading
 use Rattle.codestream.specs.Cutting as cutting
@@ -59,5 +61,8 @@ bodyResults l = choose (accepted (bodyTests l)) (frontLength l) 0 ∷ length (bo
 abbrev pub arrivalResults : arrival.Numbers → List ℕ
 arrivalResults n = n .sent ∷ []
 
+abbrev pub brightnessResults : brightness.Numbers → List ℕ
+brightnessResults n = n .number ∷ n .sum ∷ n .quotient ∷ n .remainder ∷ []
+
 abbrev pub libraryVersion : ℕ
-libraryVersion = 10000 * 1 + 100 * 2 + 0
+libraryVersion = 10000 * 1 + 100 * 3 + 0

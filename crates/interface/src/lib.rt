@@ -14,6 +14,8 @@ ghost use Rattle.header.specs.Answers as arriving;
 ghost use Rattle.region.specs.Region.{regionByte, regionTests};
 ghost use Rattle.picture_mask.specs.Masks.{maskByte, maskTests};
 ghost use Rattle.joining.specs.Join.{joinByte, joinTests};
+ghost use Rattle.brightness.specs.Brightness.{brightnessNumbers};
+ghost use Rattle.brightness.specs.Answers as measuring;
 ghost use Rattle.samples.specs.Samples.{inRange, truncated, showTests, truncateTests};
 ghost use Rattle.level_picture.specs.Level.{levelNumber, levelSample, levelTests};
 ghost use Rattle.wavelet.specs.Wavelet.{coefficient, undoneNumber, transformTests, undoTests};
@@ -27,7 +29,7 @@ ghost use Rattle.header_reader.specs.Answers.{headerFor};
 ghost use Rattle.decoder.specs.Answers as found;
 ghost use Rattle.cutter.specs.Answers as cut;
 ghost use Rattle.exactness.specs.Shown.{levelNumberAt, levelSampleAt, streamTests};
-ghost use Rattle.interface.specs.Results.{GivenAt, Given, writeResults, bodyNumbers, shotResults, readResults, cutResults, bodyResults, arrivalResults, libraryVersion};
+ghost use Rattle.interface.specs.Results.{GivenAt, Given, writeResults, bodyNumbers, shotResults, readResults, cutResults, bodyResults, arrivalResults, brightnessResults, libraryVersion};
 use header_reader::Header;
 use shot::Setting;
 
@@ -454,9 +456,45 @@ pub extern "C" fn dhiirqobaal_arrived(stream: &mut [u8], results: &mut [u64]) ->
     arrived_refusal(arrival)
 }
 
+// The numbers of what `brightness` answers.
+fn brightness_values(outcome: brightness::Outcome) -> [u64; 4]
+    ensures { λ r. ⌜ r ≡ brightnessResults (measuring.numbersOf outcome) ⌝ }
+{
+    match outcome {
+        brightness::Outcome::Measured(b) => [b.number, b.sum, b.quotient, b.remainder],
+        brightness::Outcome::Refused(_) => [0, 0, 0, 0],
+    }
+}
+
+fn brightness_refusal(outcome: brightness::Outcome) -> u64
+    ensures { λ r. ⌜ r ≡ measuring.numbersOf outcome .refusal ⌝ }
+{
+    match outcome {
+        brightness::Outcome::Measured(_) => 0,
+        brightness::Outcome::Refused(refusal) => refusal::refusal_number(refusal),
+    }
+}
+
+#[no_mangle]
+pub extern "C" fn dhiirqobaal_brightness(
+    w: usize,
+    h: usize,
+    picture: &[u16],
+    region: &[u8],
+    results: &mut [u64],
+) -> u64
+    ensures { λ r. ⌜ r ≡ brightnessNumbers w h (now (picture .entry)) (now (region .entry)) .refusal ⌝ }
+    ensures { λ r. ⌜ Given (brightnessResults (brightnessNumbers w h (now (picture .entry)) (now (region .entry)))) (now (results .entry)) (now (results .exit)) ⌝ }
+{
+    let outcome = brightness::brightness(w, h, picture, region);
+    let values = brightness_values(outcome);
+    give(&values, 0, results);
+    brightness_refusal(outcome)
+}
+
 #[no_mangle]
 pub extern "C" fn dhiirqobaal_version() -> u64
     ensures { λ r. ⌜ r ≡ libraryVersion ⌝ }
 {
-    10200
+    10300
 }

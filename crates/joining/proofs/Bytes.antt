@@ -29,7 +29,7 @@ mark-filled W H F i h = ap marked (listed-cell (W * H) (λ i. byteOf (F i)) 0 i 
 
 -- ---- the region that joined bytes hold
 module _ (W H : ℕ) (a b : List ℕ) (p : length a ≡ W * H) (q : length b ≡ W * H) where
-  mark-joined : (i : ℕ) → marked (getD (filled W H (joinByte a b)) i 0) ≡ (marked (getD a i 0) || marked (getD b i 0))
+  pub mark-joined : (i : ℕ) → marked (getD (filled W H (joinByte a b)) i 0) ≡ (marked (getD a i 0) || marked (getD b i 0))
   mark-joined i = by-lt i (W * H)
       (mark-filled W H (λ i. marked (getD a i 0) || marked (getD b i 0)) i)
       (λ ge. ap marked (List·getD-eq-default (filled W H (joinByte a b)) 0 (omega (arith, listed-length (W * H) (joinByte a b))))

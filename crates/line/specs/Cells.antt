@@ -9,6 +9,7 @@
 --   odds X       == X(1), X(3), .., as a line
 --   paired E O   == the line with these evens and odds
 --   cell l       == the numbers of a buffer as a line, 0 past its end
+--   total n X    == the sum of the first n cells of X
 --   count n B    == how many of the first n cells B marks
 --   listed n X   == the first n cells of X as a list
 --
@@ -45,9 +46,12 @@ odds X n = X (2 * n + 1)
 unfoldable pub paired : {A : Type 0} → Line A → Line A → Line A
 paired E O x = choose (eqb (x % 2) 0) (E (x / 2)) (O (x / 2))
 
+unfoldable pub total : ℕ → Line ℕ → ℕ
+total zero X = 0
+total (suc n) X = total n X + X n
+
 unfoldable pub count : ℕ → Line Bool → ℕ
-count zero B = 0
-count (suc n) B = count n B + choose (B n) 1 0
+count n B = total n (λ i. choose (B i) 1 0)
 
 abbrev pub cell : List ℤ → Line ℤ
 cell l i = getD l i (pos 0)

@@ -9,7 +9,7 @@ use borrow.Author.Tests.{eq-eqb}
 use Rattle.kernel.specs.declared.Kernel.{Kernel}
 use Rattle.line.specs.Transform.{back}
 use Rattle.line.specs.Mask.{maskLine}
-use Rattle.line.specs.Cells.{count}
+use Rattle.line.specs.Cells.{total, count}
 use Rattle.line.proofs.Marks.{half-marked}
 use Rattle.line.proofs.Covered.{covered}
 use Rattle.grid.specs.Picture.{Picture, walk, side, AgreeOn}
@@ -25,7 +25,7 @@ same-self (pos a) = eq-eqb a a refl
 same-self (negsuc a) = eq-eqb a a refl
 
 count-none : (n : ℕ) (f : ℕ → Bool) → ((i : ℕ) → i < n → f i ≡ false) → count n f ≡ 0
-unfolding count
+unfolding count total
 count-none zero f none = refl
 count-none (suc n) f none = rw (none n (omega arith), count-none n f (λ i h. none i (omega arith))) (omega arith)
 

@@ -9,7 +9,7 @@ use lib.Dec.{ltb}
 use lib.IntN.{ℤ, pos, negsuc}
 use lib.ListN.{length}
 use borrow.Author.Tests.{lt-ltb}
-use Rattle.line.specs.Cells.{choose, behind, cell, count}
+use Rattle.line.specs.Cells.{choose, behind, cell, total, count}
 use Rattle.line.proofs.Cells.{by-lt, by-bool}
 use Rattle.line.proofs.Counts.{count-marked}
 use Rattle.bitplane.specs.Bits.{gathered}
@@ -113,7 +113,7 @@ module _ (src : List ℕ) (on : ℕ → Bool) (t : ℕ) where
     zero-here k h o = zeros (count k (behind i on)) (omega (arith, count-marked k n (behind i on) h o))
 
     silent-place : (k : ℕ) → k ≤ n → at l i q k ≡ q + count k (behind i on)
-    unfolding place count
+    unfolding place count total
     silent-place zero h = omega arith
     silent-place (suc k) h = let e = silent-place k (omega arith) in by-bool (on (i + k))
         (λ o. rw (o, e, zero-here k (omega arith) o, used-zero (cell l (i + k))) (omega arith))

@@ -4,7 +4,7 @@ use mathlib.Core.Bool.{false}
 use lib.Dec.{eqb}
 use Rattle.refusal.specs.Numbers.{refusalNumber}
 use Rattle.refusal.specs.declared.Refusal.{Refusal}
-use Rattle.refusal.specs.declared.Refusal.the-variants.{Kernel, Levels, Depth, Size, Length, Sample, Numbers, Rectangle, Mark, Magnitude, Room, Header, Version, Planes, Cut, Filling, Level}
+use Rattle.refusal.specs.declared.Refusal.the-variants.{Kernel, Levels, Depth, Size, Length, Sample, Numbers, Rectangle, Mark, Magnitude, Room, Header, Version, Planes, Cut, Filling, Level, NoSample}
 
 pub named : (r : Refusal) → eqb (refusalNumber r) 0 ≡ false
 named Kernel = refl
@@ -24,3 +24,4 @@ named Planes = refl
 named Cut = refl
 named Filling = refl
 named Level = refl
+named NoSample = refl

@@ -14,7 +14,7 @@ use Prim.Native.Nat.{ℕ}
 use lib.Dec.{eqb}
 use Rattle.line.specs.Cells.{choose}
 use Rattle.refusal.specs.declared.Refusal.{Refusal}
-use Rattle.refusal.specs.declared.Refusal.the-variants.{Kernel, Levels, Depth, Size, Length, Sample, Numbers, Rectangle, Mark, Magnitude, Room, Header, Version, Planes, Cut, Filling, Level}
+use Rattle.refusal.specs.declared.Refusal.the-variants.{Kernel, Levels, Depth, Size, Length, Sample, Numbers, Rectangle, Mark, Magnitude, Room, Header, Version, Planes, Cut, Filling, Level, NoSample}
 use Rattle.refusal.specs.declared.Answer.{Answer}
 use Rattle.refusal.specs.declared.Answer.the-variants.{Done, Refused}
 
@@ -36,6 +36,7 @@ refusalNumber Planes = 14
 refusalNumber Cut = 15
 refusalNumber Filling = 16
 refusalNumber Level = 17
+refusalNumber NoSample = 19
 
 abbrev pub answerNumber : Answer → ℕ
 answerNumber Done = 0

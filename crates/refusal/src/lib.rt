@@ -7,7 +7,7 @@ ghost use Rattle.refusal.specs.Numbers.{refusalNumber, answerNumber};
 ghost use Rattle.refusal.specs.Tests as tests;
 ghost use Rattle.refusal.specs.Parts.{partSize, partStart};
 
-// Refusals 1 to 17, in the order of their numbers (docs/FORMAT.md, "Refusals").
+// Refusals 1 to 17 and 19, in the order of their numbers (docs/FORMAT.md, "Refusals").
 pub enum Refusal {
     Kernel,
     Levels,
@@ -26,6 +26,7 @@ pub enum Refusal {
     Cut,
     Filling,
     Level,
+    NoSample,
 }
 
 // What an entry answers that returns no number of its own.
@@ -56,6 +57,7 @@ pub fn refusal_number(refusal: Refusal) -> u64
         Refusal::Cut => 15,
         Refusal::Filling => 16,
         Refusal::Level => 17,
+        Refusal::NoSample => 19,
     }
 }
 

@@ -13,13 +13,13 @@ use lib.Dec.{ltb}
 use lib.IntN.{ℤ, natAbs}
 use lib.ListN.{length, getD, length-append}
 use Rattle.line.specs.Cells.{count, cell}
+use Rattle.line.proofs.Counts.{count-parted, count-parted-on}
 use Rattle.bitplane.specs.Inner.{nonzero}
 use Rattle.bitplane.specs.Body.{class, planes, body}
 use Rattle.bitplane.proofs.Classes.{classes-apart}
 use Rattle.bitplane.proofs.Lengths.{class-length}
 use Rattle.scan.specs.Inner.{signCount}
 use Rattle.scan.specs.Scan.{largest, planeCount}
-use Rattle.scan.proofs.Counting.{count-parted, count-parted-on}
 use Rattle.scan.proofs.PlaneCounts.{plane-count}
 
 module _ (l : List ℤ) (mask : List ℕ) (size : length mask ≡ length l) (small : largest l < 2 ^ 32) where

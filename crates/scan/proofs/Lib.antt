@@ -1,5 +1,4 @@
 -- The laws of scans.
-pub mod Counting
 pub mod Running
 pub mod Largest
 pub mod PlaneCounts

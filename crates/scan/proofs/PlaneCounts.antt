@@ -7,7 +7,7 @@ use lib.Dec.{leb}
 use lib.IntN.{ℤ}
 use lib.Pow.{pow-pos, pow-mono}
 use borrow.Author.Tests.{le-leb, lt-leb}
-use Rattle.line.specs.Cells.{count, cell}
+use Rattle.line.specs.Cells.{total, count, cell}
 use Rattle.line.proofs.Cells.{by-lt}
 use Rattle.bitplane.specs.Inner.{PlaneCount}
 use Rattle.scan.specs.Scan.{largest, digits, planeCount}
@@ -35,7 +35,7 @@ power-off n m k p h =
     })
 
 powers : (n m : ℕ) → Powers n m (count n (λ t. leb (2 ^ t) m))
-unfolding count
+unfolding count total
 powers zero m = record { most = omega arith; above = λ h. absurd (omega arith); least = λ h. absurd (omega arith) }
 powers (suc n) m = by-lt m (2 ^ n)
     (λ lt. rw (lt-leb (2 ^ n) m lt) (power-off n m (count n (λ t. leb (2 ^ t) m)) (powers n m) lt))

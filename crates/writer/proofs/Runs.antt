@@ -11,7 +11,7 @@ use lib.ListN.{length, length-append, getD, set}
 use lib.Seq.{getD-set-same, getD-set-other}
 use borrow.Author.Count.{below-more}
 use lib.Pow.{pow-mono, shl-exact}
-use Rattle.line.specs.Cells.{choose, behind, cell, count}
+use Rattle.line.specs.Cells.{choose, behind, cell, total, count}
 use Rattle.bitplane.specs.Body.{Pass, class, signAfter, code, passBits}
 use Rattle.bitplane.proofs.Empty.{bits-none}
 use Rattle.bitplane.proofs.Bytes.{Binary, code-binary, pass-binary}
@@ -117,7 +117,7 @@ module _ (x : Pass) (Z : ℕ → ℤ) where
   run-binary i n = pass-binary _ (behind i Z) n
 
   pub run-many : (i n : ℕ) → (count n (behind i (x .on)) ≤ length (run x Z i n)) × (length (run x Z i n) ≤ 2 * n)
-  unfolding run passBits count
+  unfolding run passBits count total
   run-many i zero = (omega arith, omega arith)
   run-many i (suc n) =
       let a = run-many i n in let g = given-length (x .on (i + n)) (x .plane) (Z (i + n)) in
@@ -132,7 +132,7 @@ module _ (x : Pass) (Z : ℕ → ℤ) where
 
   -- ---- none of n coefficients has begun
   zero-run : (i n : ℕ) → ((k : ℕ) → k < n → natAbs (Z (i + k)) / 2 ^ x .plane ≡ 0) → Digits (run x Z i n) 0 (count n (behind i (x .on)))
-  unfolding run passBits count extended
+  unfolding run passBits count total extended
   zero-run i zero z = record { value = refl; many = refl }
   zero-run i (suc n) z =
       let g = zero-digits (x .on (i + n)) (x .plane) (Z (i + n)) (z n (omega arith)) in

@@ -4,21 +4,15 @@
 use std::cell::RefCell;
 use std::hint::black_box;
 
-use benchmark::accepted;
 use benchmark::size::{regions, Size};
 use benchmark::stream::Setting;
 use benchmark::timing::best;
+use benchmark::{accepted, region_of};
 
 use crate::transforms::eight;
 
 /// The smallest byte that is refused.
 const TOO_LARGE: u8 = 2;
-
-fn region_of(size: Size, numbers: &[u32]) -> Vec<u8> {
-    let mut region = vec![0; size.samples()];
-    accepted(bindings::region(numbers, size.w, size.h, &mut region));
-    region
-}
 
 fn make_mask(setting: Setting, region: &[u8], mask: &mut [u8]) {
     let Setting {

@@ -5,6 +5,8 @@ pub mod size;
 pub mod stream;
 pub mod timing;
 
+use size::Size;
+
 /// The bits of a sample.
 pub const DEPTH: usize = 8;
 
@@ -23,6 +25,13 @@ pub fn picture(w: usize, h: usize) -> Vec<u16> {
         }
     }
     samples
+}
+
+/// The region of rectangles, by the library.
+pub fn region_of(size: Size, numbers: &[u32]) -> Vec<u8> {
+    let mut region = vec![0; size.samples()];
+    accepted(bindings::region(numbers, size.w, size.h, &mut region));
+    region
 }
 
 /// That a call answered 0.

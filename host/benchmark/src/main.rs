@@ -4,6 +4,7 @@
 //! name the sections that are wanted; without any, all are printed.
 
 mod base;
+mod brightness;
 mod cut_streams;
 mod joining;
 mod little_region;
@@ -71,13 +72,14 @@ fn print_calls(sizes: &[Size]) {
 fn main() {
     let largest = SIZES[SIZES.len() - 1];
     let samples = picture(largest.w, largest.h);
-    let sections: [(&str, &dyn Fn()); 7] = [
+    let sections: [(&str, &dyn Fn()); 8] = [
         ("calls", &|| print_calls(&SIZES)),
         ("base", &base::print),
         ("little", &|| little_region::print(largest, &samples)),
         ("cut", &|| cut_streams::print(largest, &samples)),
         ("small", &|| small_picture::print(largest, &samples)),
         ("join", &|| joining::print(&SIZES)),
+        ("brightness", &|| brightness::print(&SIZES[1..])),
         ("shot", &|| whole_shot::print(&SIZES)),
     ];
     let wanted: Vec<String> = env::args().skip(1).collect();
@@ -125,6 +127,11 @@ mod tests {
     #[test]
     fn join() {
         joining::print(&[SMALL]);
+    }
+
+    #[test]
+    fn brightness() {
+        brightness::print(&[SMALL]);
     }
 
     #[test]

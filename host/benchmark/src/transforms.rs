@@ -2,7 +2,7 @@
 
 use benchmark::size::Size;
 use benchmark::timing::best;
-use benchmark::{accepted, DEPTH};
+use benchmark::{accepted, region_of, DEPTH};
 
 use crate::outside_53;
 use crate::table::{row, More, Row};
@@ -146,8 +146,7 @@ fn mask_times(kernel: usize, size: Size, levels: usize, region: &[u8]) -> [f64; 
 }
 
 pub fn mask_row(kernel: usize, size: Size, levels: usize) -> Row {
-    let mut region = vec![0; size.samples()];
-    accepted(bindings::region(&eight(size), size.w, size.h, &mut region));
+    let region = region_of(size, &eight(size));
     let name = format!("{} | {levels}", KERNELS[kernel]);
     let times = mask_times(kernel, size, levels, &region);
     row(name, size, times, More::Nothing)

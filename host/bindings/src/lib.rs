@@ -79,6 +79,16 @@ mod raw {
             shown: *mut u16,
             shown_len: usize,
         ) -> u64;
+        pub fn dhiirqobaal_brightness(
+            w: usize,
+            h: usize,
+            picture: *const u16,
+            picture_len: usize,
+            region: *const u8,
+            region_len: usize,
+            results: *mut u64,
+            results_len: usize,
+        ) -> u64;
         pub fn dhiirqobaal_truncate(
             q: usize,
             w: usize,
@@ -304,6 +314,21 @@ pub fn show_level(
             undone.len(),
             shown.as_mut_ptr(),
             shown.len(),
+        )
+    }
+}
+
+pub fn brightness(w: usize, h: usize, picture: &[u16], region: &[u8], results: &mut [u64]) -> u64 {
+    unsafe {
+        raw::dhiirqobaal_brightness(
+            w,
+            h,
+            picture.as_ptr(),
+            picture.len(),
+            region.as_ptr(),
+            region.len(),
+            results.as_mut_ptr(),
+            results.len(),
         )
     }
 }

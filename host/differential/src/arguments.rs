@@ -13,6 +13,8 @@ struct Setup {
     shape: Shape,
     q: usize,
     samples: Vec<u16>,
+    /// A picture of any sixteen bits a sample.
+    picture: Vec<u16>,
     plane: Vec<i32>,
     undone: Vec<i32>,
     region: Vec<u8>,
@@ -50,6 +52,7 @@ fn setup(random: &mut Random, shape: Shape) -> Setup {
     Setup {
         q: random.within(0, 22),
         samples: shots::samples(random, &shape),
+        picture: shots::any_samples(random, len),
         plane: shots::some_plane(random, &shape),
         undone: any_numbers(random, len),
         region: mark_bytes(random, len),
@@ -152,6 +155,16 @@ fn show_level(setup: &Setup) -> Call {
         plane: setup.plane.clone(),
         undone: held(setup.undone_len),
         shown: held(setup.shown_len),
+    }
+}
+
+fn brightness(setup: &Setup) -> Call {
+    Call::Brightness {
+        w: setup.shape.w,
+        h: setup.shape.h,
+        picture: setup.picture.clone(),
+        region: setup.region.clone(),
+        results: held(setup.results_len),
     }
 }
 
@@ -286,7 +299,7 @@ fn wrong_rectangle(random: &mut Random, w: usize, h: usize) -> [u32; 4] {
 }
 
 /// Kinds of spoiling, by number.
-const KINDS: usize = 26;
+const KINDS: usize = 29;
 
 fn spoil(random: &mut Random, setup: &mut Setup, kind: usize) {
     let shape = &mut setup.shape;
@@ -300,6 +313,7 @@ fn spoil(random: &mut Random, setup: &mut Setup, kind: usize) {
         6 => {
             let len = wrong_length(random, setup.plane.len());
             setup.samples.resize(len, 0);
+            setup.picture.resize(len, 0);
             setup.plane.resize(len, 0);
             setup.undone.resize(len, 0);
             setup.region.resize(len, 0);
@@ -345,7 +359,8 @@ fn spoil(random: &mut Random, setup: &mut Setup, kind: usize) {
             (shape.w, shape.h) = (shape.h, shape.w);
         }
         18..=22 => spoil_level(random, setup, kind),
-        _ => spoil_second(random, setup, kind),
+        23..=25 => spoil_second(random, setup, kind),
+        _ => spoil_brightness(random, setup, kind),
     }
 }
 
@@ -360,6 +375,22 @@ fn spoil_second(random: &mut Random, setup: &mut Setup, kind: usize) {
     put_somewhere(random, &mut setup.second, byte);
     if kind == 25 {
         put_somewhere(random, &mut setup.region, byte);
+    }
+}
+
+/// What brightness has: picture and region of lengths of their own, and a region that
+/// must have a sample.
+fn spoil_brightness(random: &mut Random, setup: &mut Setup, kind: usize) {
+    match kind {
+        26 => {
+            let len = wrong_length(random, setup.picture.len());
+            setup.picture.resize(len, 0);
+        }
+        27 => {
+            let len = wrong_length(random, setup.region.len());
+            setup.region.resize(len, 0);
+        }
+        _ => setup.region.fill(0),
     }
 }
 
@@ -436,6 +467,7 @@ groups!(transform);
 groups!(undo);
 groups!(show);
 groups!(show_level);
+groups!(brightness);
 groups!(truncate);
 groups!(write);
 
@@ -453,7 +485,7 @@ pub fn every_size(group: &mut Group, random: &mut Random) {
     };
     let setup = setup(random, shape);
     for entry in [
-        region, mask, join, transform, undo, show, show_level, truncate, write,
+        region, mask, join, transform, undo, show, show_level, brightness, truncate, write,
     ] {
         group.compare(entry(&setup));
     }

@@ -78,6 +78,9 @@ calls! {
         kernel: usize, levels: usize, r: usize, depth: usize, w: usize, h: usize,
         plane: Vec<i32>, undone: Vec<i32>, shown: Vec<u16>
     );
+    Brightness = brightness(
+        w: usize, h: usize, picture: Vec<u16>, region: Vec<u8>, results: Vec<u64>
+    );
     Truncate = truncate(q: usize, w: usize, h: usize, mask: Vec<u8>, plane: Vec<i32>);
     Write = write(
         plane: Vec<i32>, numbers: Vec<u32>,

@@ -96,6 +96,20 @@ impl Group {
         (number, theirs)
     }
 
+    /// Compares a call that must return this number.
+    pub fn expect_number(&mut self, call: Call, expected: u64, fact: &str) {
+        let (number, _) = self.compare(call.clone());
+        self.expect(number == expected, &call, fact);
+    }
+
+    /// Makes the call on the library alone. Gives its number and buffers.
+    pub fn on_library(&mut self, call: &Call) -> (u64, Call) {
+        let mut ours = call.clone();
+        let (number, altered) = ours.on_library();
+        self.expect(altered.is_none(), call, "guard elements as they were");
+        (number, ours)
+    }
+
     /// A fact about a call's answer that is no comparison with the reference.
     pub fn expect(&mut self, holds: bool, call: &Call, fact: &str) {
         self.comparisons += 1;

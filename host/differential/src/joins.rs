@@ -5,9 +5,9 @@ use crate::call::Call;
 use crate::group::Group;
 use crate::guarded::held;
 use crate::random::Random;
-use crate::shots::{self, Shape};
+use crate::shots::{self, any_marks, some_places, Shape, LIMIT_SIDES};
 
-fn join_call((w, h): (usize, usize), first: &[u8], second: &[u8], joined: usize) -> Call {
+pub fn join_call((w, h): (usize, usize), first: &[u8], second: &[u8], joined: usize) -> Call {
     Call::Join {
         w,
         h,
@@ -15,11 +15,6 @@ fn join_call((w, h): (usize, usize), first: &[u8], second: &[u8], joined: usize)
         second: second.to_vec(),
         joined: held(joined),
     }
-}
-
-fn expect_number(group: &mut Group, call: Call, expected: u64, fact: &str) {
-    let (number, _) = group.compare(call.clone());
-    group.expect(number == expected, &call, fact);
 }
 
 /// Makes a call that must be accepted, and gives the bytes that it wrote.
@@ -64,12 +59,6 @@ fn mask_of(group: &mut Group, shape: &Shape, region: &[u8]) -> Vec<u8> {
     accepted(group, mask_call(shape, region))
 }
 
-/// One sample in so many; with 1 all of them.
-fn any_marks(random: &mut Random, len: usize) -> Vec<u8> {
-    let odds = random.pick(&[1, 2, 2, 5, 40, 1_000]);
-    (0..len).map(|_| u8::from(random.once_in(odds))).collect()
-}
-
 /// That the mask of two regions joined is their two masks joined, in either
 /// order.
 fn masks_of_joined(group: &mut Group, shape: &Shape, first: &[u8], second: &[u8]) {
@@ -102,30 +91,15 @@ fn every_mask(group: &mut Group, (w, h): (usize, usize), first: &[u8], second: &
 /// Sides at the limits and beyond, with buffers as long as W·H where there can be
 /// any, and wrong bytes behind a wrong side.
 pub fn sides(group: &mut Group, random: &mut Random) {
-    let (w, h) = [
-        (4096, 4096),
-        (4096, 1),
-        (1, 4096),
-        (4095, 4095),
-        (4097, 1),
-        (1, 4097),
-        (4097, 4096),
-        (0, 0),
-        (0, 4096),
-        (4096, 0),
-        (usize::MAX, 1),
-        (1 << 32, 1 << 32), // W·H is 0 in 64 bits
-    ][group.case as usize];
-    let taken = [w, h].iter().all(|side| (1..=4096).contains(side));
-    let len = w.wrapping_mul(h);
-    let len = if len > 1 << 25 { 16 } else { len };
+    let (w, h) = LIMIT_SIDES[group.case as usize];
+    let (taken, len) = (shots::taken(w, h), shots::limit_len(w, h));
     let (mut first, second) = (any_marks(random, len), any_marks(random, len));
     if !taken && len > 0 {
         first[len - 1] = 2;
     }
     let expected = if taken { 0 } else { 4 };
     let call = join_call((w, h), &first, &second, len);
-    expect_number(group, call, expected, "0 or 4 by the sides alone");
+    group.expect_number(call, expected, "0 or 4 by the sides alone");
 }
 
 /// Each of the three buffers empty, one too short, right and one too long, with
@@ -145,7 +119,7 @@ pub fn buffer_lengths(group: &mut Group, random: &mut Random) {
                 true => 0,
             };
             let call = join_call(size, &first[..a], &second[..b], c);
-            expect_number(group, call, expected, "0, 5 or 9 under its condition alone");
+            group.expect_number(call, expected, "0, 5 or 9 under its condition alone");
         }
     }
 }
@@ -164,7 +138,7 @@ pub fn every_wrong_byte(group: &mut Group, random: &mut Random) {
         (a[place], b[place]) = (byte, byte);
         for (first, second) in [(&a, &second), (&first, &b), (&a, &b)] {
             let call = join_call(size, first, second, len);
-            expect_number(group, call, 9, "refusal 9");
+            group.expect_number(call, 9, "refusal 9");
         }
     }
 }
@@ -175,17 +149,8 @@ fn all_wrong(group: &mut Group, size: (usize, usize), good: &[u8], byte: u8) {
     let bad = vec![byte; good.len()];
     for (first, second) in [(&bad[..], good), (good, &bad), (&bad, &bad)] {
         let call = join_call(size, first, second, good.len());
-        expect_number(group, call, 9, "refusal 9");
+        group.expect_number(call, 9, "refusal 9");
     }
-}
-
-/// Where a byte above 1 is put: every place of a short buffer, some of a longer one.
-fn wrong_places(random: &mut Random, len: usize) -> Vec<usize> {
-    if len <= 160 {
-        return (0..len).collect();
-    }
-    let some = (0..6).map(|_| random.below(len));
-    [0, len - 1].into_iter().chain(some).collect()
 }
 
 /// Rows and columns of every length, which meet any count that the library takes
@@ -196,12 +161,12 @@ pub fn every_length(group: &mut Group, random: &mut Random) {
         let [first, second] = [0; 2].map(|_| any_marks(random, len));
         group.compare(join_call(size, &first, &second, len));
         let byte = random.within(2, 255) as u8;
-        for place in wrong_places(random, len) {
+        for place in some_places(random, len) {
             for buffer in 0..2 {
                 let mut bytes = [first.clone(), second.clone()];
                 bytes[buffer][place] = byte;
                 let call = join_call(size, &bytes[0], &bytes[1], len);
-                expect_number(group, call, 9, "refusal 9");
+                group.expect_number(call, 9, "refusal 9");
             }
         }
         all_wrong(group, size, &first, byte);

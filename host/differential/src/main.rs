@@ -7,6 +7,8 @@
 
 mod abort;
 mod arguments;
+mod brightness;
+mod brightness_laws;
 mod call;
 mod chains;
 mod group;
@@ -29,7 +31,7 @@ use random::Random;
 type Entry = (&'static str, u64, fn(&mut Group, &mut Random));
 
 #[rustfmt::skip]
-const GROUPS: [Entry; 68] = [
+const GROUPS: [Entry; 89] = [
     ("region, accepted", 4_000, arguments::region::accepted),
     ("region, one wrong argument", 9_000, arguments::region::one_wrong),
     ("region, several wrong arguments", 20_000, arguments::region::several_wrong),
@@ -51,6 +53,9 @@ const GROUPS: [Entry; 68] = [
     ("show_level, accepted", 4_000, arguments::show_level::accepted),
     ("show_level, one wrong argument", 9_000, arguments::show_level::one_wrong),
     ("show_level, several wrong arguments", 20_000, arguments::show_level::several_wrong),
+    ("brightness, accepted", 4_000, arguments::brightness::accepted),
+    ("brightness, one wrong argument", 9_000, arguments::brightness::one_wrong),
+    ("brightness, several wrong arguments", 20_000, arguments::brightness::several_wrong),
     ("truncate, accepted", 4_000, arguments::truncate::accepted),
     ("truncate, one wrong argument", 9_000, arguments::truncate::one_wrong),
     ("truncate, several wrong arguments", 20_000, arguments::truncate::several_wrong),
@@ -73,6 +78,24 @@ const GROUPS: [Entry; 68] = [
     ("joins, every size to 20 by 20 with every kernel and J", 400, joins::every_setting),
     ("joins, a rectangle at a time", 600, joins::a_rectangle_at_a_time),
     ("joins, large pictures", 32, joins::large),
+    ("brightness, sides at the limits", 12, brightness::sides),
+    ("brightness, buffer lengths", 200, brightness::buffer_lengths),
+    ("brightness, every byte above 1", 200, brightness::every_wrong_byte),
+    ("brightness, faults together", 64 * 60, brightness::faults),
+    ("brightness, result arrays", 200, brightness::result_lengths),
+    ("brightness, every length to 1,000", 1_000, brightness::every_length),
+    ("brightness, every size to 20 by 20", 400, brightness::every_size),
+    ("brightness, every region of 5 by 3", 1 << 15, brightness::every_region),
+    ("brightness, sums around 32 bits", 200, brightness::sums_around_32_bits),
+    ("brightness, the largest picture", 7, brightness::largest),
+    ("brightness, large pictures", 32, brightness::large),
+    ("brightness, quotient and remainder", 4_000, brightness_laws::division),
+    ("brightness, samples outside the region", 2_000, brightness_laws::samples_outside),
+    ("brightness, regions apart", 2_000, brightness_laws::added),
+    ("brightness, regions apart in large pictures", 32, brightness_laws::large_added),
+    ("brightness, every region of 5 by 3 and the rest", 1 << 15, brightness_laws::every_region_added),
+    ("brightness, cut streams", 600, brightness_laws::cut_streams),
+    ("brightness, cut streams of large pictures", 32, brightness_laws::large_cut_streams),
     ("levels, every size to 20 by 20 with every kernel, J and r", 400, levels::every_setting),
     ("levels, large pictures", 32, levels::large),
     ("levels, buffer lengths", 200, levels::buffer_lengths),
@@ -101,7 +124,7 @@ const GROUPS: [Entry; 68] = [
 ];
 
 /// The numbers that each entry returns; each must come up in some case.
-const RETURNED: [(&str, &[u64]); 15] = [
+const RETURNED: [(&str, &[u64]); 16] = [
     ("region", &[0, 4, 7, 8, 5]),
     ("mask", &[0, 1, 2, 4, 5, 9]),
     ("join", &[0, 4, 5, 9]),
@@ -109,6 +132,7 @@ const RETURNED: [(&str, &[u64]); 15] = [
     ("undo", &[0, 1, 2, 4, 5, 10]),
     ("show", &[0, 3, 4, 5]),
     ("show_level", &[0, 1, 2, 17, 3, 4, 5, 10]),
+    ("brightness", &[0, 4, 5, 9, 19]),
     ("truncate", &[0, 3, 4, 5, 9, 10]),
     ("write", &[0, 1, 2, 3, 4, 7, 8, 5, 10, 11]),
     ("read", &[0, 12, 13, 1, 2, 3, 4, 7, 8, 14, 5, 16]),

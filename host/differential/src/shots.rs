@@ -8,11 +8,43 @@ pub const MAGNITUDE_LIMIT: i32 = 1 << 22;
 
 /// Lengths of result arrays: none, fewer, exact and more.
 pub const WRITE_RESULTS: [usize; 6] = [0, 1, 2, 3, 4, 9];
+pub const BRIGHTNESS_RESULTS: [usize; 7] = [0, 1, 2, 3, 4, 5, 9];
 pub const READ_RESULTS: [usize; 8] = [0, 1, 4, 11, 15, 138, 139, 145];
 pub const CUT_RESULTS: [usize; 4] = [0, 1, 2, 5];
 pub const BODY_RESULTS: [usize; 5] = [0, 1, 2, 3, 6];
 pub const HEADER_RESULTS: [usize; 7] = [0, 1, 7, 11, 134, 135, 141];
 pub const ARRIVED_RESULTS: [usize; 3] = [0, 1, 4];
+
+/// Sides at the limits and beyond.
+pub const LIMIT_SIDES: [(usize, usize); 12] = [
+    (4096, 4096),
+    (4096, 1),
+    (1, 4096),
+    (4095, 4095),
+    (4097, 1),
+    (1, 4097),
+    (4097, 4096),
+    (0, 0),
+    (0, 4096),
+    (4096, 0),
+    (usize::MAX, 1),
+    (1 << 32, 1 << 32), // W·H is 0 in 64 bits
+];
+
+/// That both sides are within the limits.
+pub fn taken(w: usize, h: usize) -> bool {
+    [w, h].iter().all(|side| (1..=4096).contains(side))
+}
+
+/// W·H of any sides, or a few where no buffer can be so long.
+pub fn limit_len(w: usize, h: usize) -> usize {
+    let len = w.wrapping_mul(h);
+    if len > 1 << 25 {
+        16
+    } else {
+        len
+    }
+}
 
 /// What a header says, but for the plane count.
 #[derive(Clone)]
@@ -175,6 +207,36 @@ pub fn samples(random: &mut Random, shape: &Shape) -> Vec<u16> {
             sample as u16
         })
         .collect()
+}
+
+/// Samples of any sixteen bits: noise, the largest, both ends, dark ones, few spots.
+pub fn any_samples(random: &mut Random, len: usize) -> Vec<u16> {
+    let style = random.below(6);
+    (0..len)
+        .map(|_| match style {
+            0 | 1 => random.number() as u16,
+            2 => u16::MAX,
+            3 => random.pick(&[0, u16::MAX]),
+            4 => random.below(4) as u16,
+            _ if random.once_in(16) => random.number() as u16,
+            _ => 0,
+        })
+        .collect()
+}
+
+/// One sample in so many; with 1 all of them.
+pub fn any_marks(random: &mut Random, len: usize) -> Vec<u8> {
+    let odds = random.pick(&[1, 2, 2, 5, 40, 1_000]);
+    (0..len).map(|_| u8::from(random.once_in(odds))).collect()
+}
+
+/// Every place of a short buffer, some of a longer one.
+pub fn some_places(random: &mut Random, len: usize) -> Vec<usize> {
+    if len <= 160 {
+        return (0..len).collect();
+    }
+    let some = (0..6).map(|_| random.below(len));
+    [0, len - 1].into_iter().chain(some).collect()
 }
 
 /// Signs at random, all alike, or in turn, which lets undone numbers grow.

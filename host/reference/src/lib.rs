@@ -233,6 +233,25 @@ pub fn show_level(
     0
 }
 
+pub fn brightness(w: usize, h: usize, picture: &[u16], region: &[u8], results: &mut [u64]) -> u64 {
+    put(results, &[0; 4]);
+    let tested = || -> Tested {
+        refusal::sides(w, h)?;
+        refusal::length(picture.len(), w, h)?;
+        refusal::length(region.len(), w, h)?;
+        refusal::marks(region)?;
+        refusal::without_sample(region)
+    };
+    if let Err(number) = tested() {
+        return number;
+    }
+    let inside = (0..w * h).filter(|&place| region[place] == 1);
+    let samples: Vec<u64> = inside.map(|place| u64::from(picture[place])).collect();
+    let (number, sum) = (samples.len() as u64, samples.iter().sum::<u64>());
+    put(results, &[number, sum, sum / number, sum % number]);
+    0
+}
+
 pub fn truncate(q: usize, w: usize, h: usize, mask: &[u8], plane: &mut [i32]) -> u64 {
     let tested = || -> Tested {
         refusal::dropped(q)?;

@@ -1,5 +1,5 @@
 //! The refusals (docs/FORMAT.md), one function each. A call tests those that it
-//! has, in the order 12, 13, 1, 2, 17, 3, 4, 7, 8, 14, 5, 6, 9, 10, 16, 15, 11.
+//! has, in the order 12, 13, 1, 2, 17, 3, 4, 7, 8, 14, 5, 6, 9, 19, 10, 16, 15, 11.
 
 /// A refusal's number, or nothing.
 pub type Tested = Result<(), u64>;
@@ -69,6 +69,11 @@ pub fn rectangles(numbers: &[u32], w: usize, h: usize) -> Tested {
 
 pub fn marks(bytes: &[u8]) -> Tested {
     refuse_if(bytes.iter().any(|&b| b > 1), 9)
+}
+
+/// A region whose bytes are already tested.
+pub fn without_sample(region: &[u8]) -> Tested {
+    refuse_if(!region.contains(&1), 19)
 }
 
 pub fn magnitudes(plane: &[i32]) -> Tested {

@@ -1,16 +1,12 @@
 //! Pictures of every size to 9 by 9 at every J, so also at more levels than such
 //! a size can be halved, whole and at every level r.
 
-/// Numbers that are the same in every run.
-fn noise(seed: usize, count: usize) -> Vec<u16> {
-    let mut state = seed as u64;
-    let mut next = || {
-        state = state
-            .wrapping_mul(6364136223846793005)
-            .wrapping_add(1442695040888963407);
-        (state >> 40) as u16
-    };
-    (0..count).map(|_| next()).collect()
+mod common;
+
+use common::Noise;
+
+fn noise(seed: usize) -> Noise {
+    Noise(seed as u64)
 }
 
 /// Every kernel, J and size.
@@ -26,14 +22,12 @@ fn undone([kernel, levels, w, h]: [usize; 4], plane: &[i32]) -> Vec<i32> {
 }
 
 fn mask_of([kernel, levels, w, h]: [usize; 4], region: &[u8]) -> Vec<u8> {
-    let mut mask = vec![99; w * h];
-    let number = reference::mask(kernel, levels, w, h, region, &mut mask);
-    assert_eq!(number, 0);
-    mask
+    common::mask_of((kernel, levels), (w, h), region)
 }
 
 fn picture([_, _, w, h]: [usize; 4]) -> Vec<u16> {
-    noise(w + h, w * h).iter().map(|n| n % 1024).collect()
+    let samples = noise(w + h).samples(w * h);
+    samples.iter().map(|sample| sample % 1024).collect()
 }
 
 fn transformed([kernel, levels, w, h]: [usize; 4], samples: &[u16]) -> Vec<i32> {
@@ -45,7 +39,7 @@ fn transformed([kernel, levels, w, h]: [usize; 4], samples: &[u16]) -> Vec<i32> 
 
 /// Coefficients of either sign that are no picture's.
 fn any_plane([_, _, w, h]: [usize; 4], seed: usize) -> Vec<i32> {
-    let numbers = noise(seed, w * h);
+    let numbers = noise(seed).samples(w * h);
     numbers.iter().map(|&n| i32::from(n as i16)).collect()
 }
 
@@ -136,8 +130,7 @@ fn a_level_is_what_so_many_levels_leave() {
 }
 
 fn any_region([_, _, w, h]: [usize; 4], seed: usize) -> Vec<u8> {
-    let numbers = noise(seed, w * h);
-    numbers.iter().map(|n| u8::from(n % 5 == 0)).collect()
+    noise(seed).region((w, h), 5)
 }
 
 /// The plane with 0 for what is not marked.

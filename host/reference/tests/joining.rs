@@ -2,24 +2,9 @@
 //! two regions joined is the two masks joined, the joining itself, and every refusal
 //! in its place.
 
-/// Numbers that are the same in every run.
-struct Noise(u64);
+mod common;
 
-impl Noise {
-    fn below(&mut self, limit: usize) -> usize {
-        self.0 = self
-            .0
-            .wrapping_mul(6364136223846793005)
-            .wrapping_add(1442695040888963407);
-        (self.0 >> 33) as usize % limit
-    }
-}
-
-fn joined((w, h): (usize, usize), a: &[u8], b: &[u8]) -> Vec<u8> {
-    let mut joined = vec![99; w * h];
-    assert_eq!(reference::join(w, h, a, b, &mut joined), 0);
-    joined
-}
+use common::{joined, mask_of, region_of_bits, sizes, Noise};
 
 fn region_of((w, h): (usize, usize), numbers: &[u32]) -> Vec<u8> {
     let mut region = vec![99; w * h];
@@ -27,33 +12,9 @@ fn region_of((w, h): (usize, usize), numbers: &[u32]) -> Vec<u8> {
     region
 }
 
-fn mask_of((kernel, levels): (usize, usize), (w, h): (usize, usize), region: &[u8]) -> Vec<u8> {
-    let mut mask = vec![99; w * h];
-    let number = reference::mask(kernel, levels, w, h, region, &mut mask);
-    assert_eq!(number, 0);
-    mask
-}
-
 /// Every kernel and J.
 fn settings() -> impl Iterator<Item = (usize, usize)> {
     (0..4).flat_map(|kernel| (1..=5).map(move |levels| (kernel, levels)))
-}
-
-/// Every size to 17 by 17.
-fn sizes() -> impl Iterator<Item = (usize, usize)> {
-    (1..=17).flat_map(|w| (1..=17).map(move |h| (w, h)))
-}
-
-/// The region that has sample i where bit i is 1.
-fn region_of_bits(bits: usize, count: usize) -> Vec<u8> {
-    (0..count).map(|i| (bits >> i & 1) as u8).collect()
-}
-
-/// About one sample in so many.
-fn any_region(noise: &mut Noise, (w, h): (usize, usize), odds: usize) -> Vec<u8> {
-    (0..w * h)
-        .map(|_| u8::from(noise.below(odds) == 0))
-        .collect()
 }
 
 /// So many rectangles inside the picture.
@@ -167,7 +128,7 @@ fn masks_of_any_two_regions() {
     let mut noise = Noise(1);
     for size in sizes() {
         let odds = 2 + noise.below(30);
-        let [a, b] = [odds, 40].map(|odds| any_region(&mut noise, size, odds));
+        let [a, b] = [odds, 40].map(|odds| noise.region(size, odds));
         check_masks(size, &a, &b);
     }
 }
@@ -209,7 +170,7 @@ fn a_rectangle_at_a_time() {
 fn the_joining_itself() {
     let mut noise = Noise(4);
     for size in sizes() {
-        let [a, b, c] = [2, 3, 9].map(|odds| any_region(&mut noise, size, odds));
+        let [a, b, c] = [2, 3, 9].map(|odds| noise.region(size, odds));
         let [none, all] = [0, 1].map(|byte| vec![byte; size.0 * size.1]);
         let join = |a: &[u8], b: &[u8]| joined(size, a, b);
         assert_eq!(join(&a, &b), join(&b, &a));
@@ -229,7 +190,7 @@ fn nothing_and_regions_inside_others() {
     let mut noise = Noise(5);
     for size in sizes() {
         let none = vec![0; size.0 * size.1];
-        let outer = any_region(&mut noise, size, 3);
+        let outer = noise.region(size, 3);
         let mut inner = outer.clone();
         for byte in &mut inner {
             *byte *= noise.below(2) as u8;

@@ -38,6 +38,7 @@ pub enum Command {
     Cut(Cut),
     Show(Show),
     Compare(Compare),
+    Brightness(Brightness),
     Mask(Mask),
     Join(Join),
     Demo(Demo),
@@ -190,6 +191,37 @@ pub struct Compare {
     /// Compare within the rectangles of this stream
     #[arg(long, value_name = "STREAM", allow_hyphen_values = true, conflicts_with_all = ["rect", "rects"])]
     pub stream: Option<PathBuf>,
+}
+
+/// Measure how bright rectangles or a region are, without rounding
+///
+/// The file is a stream, whole, cut or what a call that broke off has left, whose full picture is
+/// measured, or a picture, PGM or PNG. Of a stream each of its own rectangles is measured, unless an
+/// option names others; of a picture an option has to name them. Each rectangle is one line on
+/// standard output, a bitmap's region is one line in all:
+///
+///   number=N sum=S quotient=Q remainder=R exact=E rect=X,Y,W,H
+///   number=N sum=S quotient=Q remainder=R exact=E region=BITMAP
+///
+/// N samples have the sum S, and S = Q * N + R with R below N. Numbers and sums add up: those of two
+/// regions that share no sample, added, are those of both joined. Nothing is printed unless every
+/// line can be. The lines are printed with --quiet too.
+///
+/// E is yes where every bit arrived that the samples need, so that they are those of the picture
+/// that was captured, unless the link changed a bit: where the marked bits arrived and the samples
+/// lie in the stream's own rectangles, or where every bit of the picture arrived. Else it is no, and
+/// the status is 1. Of a picture it is unknown: its file does not tell how it was made.
+#[derive(Args)]
+#[command(display_name = "dhiirqobaal")]
+#[command(after_help = STATUSES, verbatim_doc_comment)]
+pub struct Brightness {
+    /// The stream or the picture, '-' for standard input
+    pub file: PathBuf,
+    #[command(flatten)]
+    pub marked: Marked,
+    /// Measure the region of this bitmap, a PBM file of the picture's size, in which black is inside
+    #[arg(long, value_name = "BITMAP", allow_hyphen_values = true, conflicts_with_all = ["rect", "rects"])]
+    pub region: Option<PathBuf>,
 }
 
 /// Make the mask of a region: the coefficients that its samples need

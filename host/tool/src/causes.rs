@@ -82,14 +82,32 @@ pub fn of_mask(number: u64, kernel: usize, levels: usize, region: &Bitmap) -> St
     of_setting(number, &setting) + remedy(number)
 }
 
+/// How a bitmap is made to fit.
+const FIT: &str = "'pamcut' cuts samples off, 'pnmpad -white' adds some outside (netpbm)";
+
 /// Which sizes differ of two bitmaps that should be joined (5), and what to do; `name` is the second one's.
 pub fn of_sizes(first: &Bitmap, second: &Bitmap, name: &str) -> String {
     format!(
         "it has {} samples and {name} has {}, but bitmaps of one size are joined; draw both at the size of the \
-         picture, or fit one of them: 'pamcut' cuts samples off, 'pnmpad -white' adds some outside (netpbm)",
+         picture, or fit one of them: {FIT}",
         report::extent((first.width, first.height)),
         report::extent((second.width, second.height))
     )
+}
+
+/// Why a bitmap's region of a picture was not measured, and what to do; `name` is the bitmap's.
+pub fn of_brightness(number: u64, picture: &Picture, region: &Bitmap, name: &str) -> String {
+    let Picture { width, height, .. } = *picture;
+    match number {
+        5 => format!(
+            "it has {} samples and {name} has {}, but a region has the size of its picture; draw it at that size, or \
+             fit it: {FIT}",
+            report::extent((width, height)),
+            report::extent((region.width, region.height))
+        ),
+        19 => format!("{} (no sample of {name} is black); draw black what should be measured", meaning(19)),
+        _ => of_region(number, &[], width, height),
+    }
 }
 
 /// What of a picture was refused before any work, and what to do next; `format` is that of its file, `given` the depth of

@@ -42,6 +42,14 @@ impl Setting {
     }
 }
 
+/// How bright a region is: its number of samples, their sum, and the sum's quotient and remainder by the number.
+pub struct Figures {
+    pub number: u64,
+    pub sum: u64,
+    pub quotient: u64,
+    pub remainder: u64,
+}
+
 /// A stream that was written.
 pub struct Written {
     pub bytes: Vec<u8>,
@@ -128,11 +136,28 @@ pub fn mask(kernel: usize, levels: usize, region: &Bitmap) -> Result<Bitmap, Fai
 pub fn join(first: &Bitmap, second: &Bitmap, sizes: impl FnOnce() -> String) -> Result<Bitmap, Failure> {
     let Bitmap { width, height, .. } = *first;
     let mut joined = zeros::<u8>(first.samples.len())?;
-    // The codec knows lengths, and 2 by 3 samples are as long as 3 by 2: what is of another size goes in as nothing.
-    let fitting = if (second.width, second.height) == (width, height) { &second.samples[..] } else { &[] };
-    let number = bindings::join(width, height, &first.samples, fitting, &mut joined);
+    let number = bindings::join(width, height, &first.samples, fitting(second, width, height), &mut joined);
     accepted(number, || if number == 5 { sizes() } else { causes::of_region(number, &[], width, height) })?;
     Ok(Bitmap { width, height, samples: joined })
+}
+
+/// The bytes of a bitmap that should have a size. The codec knows lengths, and 2 by 3 samples are as long as 3 by 2:
+/// what is of another size goes in as nothing.
+fn fitting(bitmap: &Bitmap, width: usize, height: usize) -> &[u8] {
+    match (bitmap.width, bitmap.height) == (width, height) {
+        true => &bitmap.samples,
+        false => &[],
+    }
+}
+
+/// How bright a region of a picture is. `cause` says why it is refused with a number.
+pub fn brightness(picture: &Picture, region: &Bitmap, cause: impl FnOnce(u64) -> String) -> Result<Figures, Failure> {
+    let Picture { width, height, .. } = *picture;
+    let mut results = [0u64; 4];
+    let number = bindings::brightness(width, height, &picture.samples, fitting(region, width, height), &mut results);
+    accepted(number, || cause(number))?;
+    let [number, sum, quotient, remainder] = results;
+    Ok(Figures { number, sum, quotient, remainder })
 }
 
 /// The coefficients of a picture, under a setting that was not refused. `large` names the sample that is above 2^D - 1,

@@ -17,9 +17,11 @@ pub enum Status {
 pub const STATUSES: &str = "\
 Exit status:
   0  done; in show, info and cut every marked bit arrived, so that every rectangle is exact (at a
-     level above 0: what the whole stream shows there); in compare no sample differs
+     level above 0: what the whole stream shows there); in compare no sample differs; in
+     brightness no line has exact=no
   1  shown or told, but not exact: not every marked bit arrived or, with no rectangle, not every
-     bit of the picture; in compare a sample differs, or nothing was compared
+     bit of the picture; in compare a sample differs, or nothing was compared; in brightness a
+     line has exact=no, or nothing was measured
   2  wrong usage
   3  refused by the codec, with the refusal's number
   4  input or output failed: a file cannot be read or written, or does not hold what is taken;
@@ -73,7 +75,7 @@ impl fmt::Display for Failure {
 }
 
 /// The refusals' numbers and meanings, as docs/FORMAT.md and the C header have them.
-const REFUSALS: [(u64, &str); 17] = [
+const REFUSALS: [(u64, &str); 18] = [
     (1, "the kernel is not 0 to 3"),
     (2, "the levels J are not 1 to 5"),
     (3, "the depth D is not 1 to 10"),
@@ -91,6 +93,7 @@ const REFUSALS: [(u64, &str); 17] = [
     (15, "the wanted length is below the region mark or above the stream's length, or the marked part is not whole"),
     (16, "behind the complete body there is a filling bit that is not 0, or a further byte"),
     (17, "the level r is above the levels J"),
+    (19, "the region is without a sample"),
 ];
 
 /// The meaning of a refusal's number.

@@ -1,5 +1,5 @@
-//! The technician's tool for exact-region panel shots: encodes pictures, cuts and shows streams, compares pictures,
-//! makes and joins masks.
+//! The technician's tool for exact-region panel shots: encodes pictures, cuts and shows streams, compares and measures
+//! pictures, makes and joins masks.
 
 mod args;
 mod cable;
@@ -54,6 +54,7 @@ fn run(line: &Line) -> Result<Status, Failure> {
         Command::Cut(args) => commands::cut::run(args, line.quiet),
         Command::Show(args) => commands::show::run(args, line.quiet),
         Command::Compare(args) => commands::compare::run(args, line.quiet),
+        Command::Brightness(args) => commands::brightness::run(args, line.quiet),
         Command::Mask(args) => commands::mask::run(args, line.quiet),
         Command::Join(args) => commands::join::run(args, line.quiet),
         Command::Demo(args) => demo::run(&args.folder, line.quiet),

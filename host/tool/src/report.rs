@@ -57,8 +57,8 @@ pub fn bits_arrived(stream: &Stream, reading: &Reading) -> String {
 fn told_of_bits(stream: &Stream, reading: &Reading, [whole, part]: Outcomes) -> String {
     let (rectangles, they) = match stream.setting.rectangles.len() {
         0 => return no_rectangle(reading),
-        1 => ("the rectangle".to_string(), "it is"),
-        count => (format!("the {count} rectangles"), "they are"),
+        1 => (the_rectangles(1), "it is"),
+        count => (the_rectangles(count), "they are"),
     };
     match reading.whole {
         true => format!("every bit of {rectangles} arrived: {they} {whole}"),
@@ -66,9 +66,27 @@ fn told_of_bits(stream: &Stream, reading: &Reading, [whole, part]: Outcomes) -> 
     }
 }
 
+fn the_rectangles(count: usize) -> String {
+    match count {
+        1 => "the rectangle".to_string(),
+        _ => format!("the {count} rectangles"),
+    }
+}
+
 fn no_rectangle(reading: &Reading) -> String {
     let every = if reading.complete() { "every" } else { "not every" };
     format!("no rectangle is marked; {every} bit of the picture arrived")
+}
+
+/// How many of how many lines with figures of a stream are not exact, and why.
+pub fn not_exact(stream: &Stream, reading: &Reading, few: usize, all: usize) -> String {
+    let why = match (stream.setting.rectangles.len(), reading.whole) {
+        (0, _) => no_rectangle(reading),
+        (count, false) => format!("not every bit of {} arrived", the_rectangles(count)),
+        (count, true) => format!("not every bit outside {} arrived", the_rectangles(count)),
+    };
+    let are = if few == 1 { "is" } else { "are" };
+    format!("{}; {why}: {few} of {} {are} not exact", bytes_arrived(stream), words::count(all, "line"))
 }
 
 /// The status of a stream that was read.

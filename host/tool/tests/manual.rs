@@ -145,7 +145,8 @@ fn every_refusal_in_its_order() {
     let page = page();
     let found: Vec<u8> =
         tags(&section(&page, "REFUSALS")).iter().filter_map(|tag| tag.strip_prefix(".B ")?.parse().ok()).collect();
-    assert_eq!(found, (1..=17).collect::<Vec<u8>>());
+    // There is no 18.
+    assert_eq!(found, (1..=17).chain([19]).collect::<Vec<u8>>());
 }
 
 /// The names in front of a colon in the JSON object of a stream.

@@ -2,7 +2,7 @@
 use Prim.Native.Nat.{_+_, _-_}
 use native.Mathlib.Omega.{arith}
 use Rattle.line.specs.Cells.{behind}
-use Rattle.line.proofs.Counts.{count-le, Counted, counted-none, counted-more, counted-all, counted-next}
+use Rattle.line.proofs.Counts.{Counted, counted-none, counted-more, counted-all, counted-le, counted-next}
 use Rattle.bitplane.specs.Body.{class}
 use Rattle.members.proofs.among.Statement.{statement}
 use Rattle.members.proofs.among.Tie as tie
@@ -25,5 +25,5 @@ among-spec =
     (λ c. omega arith)
     (λ c. omega arith)
     (λ c. counted-more (c .before .before .loop .inv) (omega arith) (c .member .ensures))
-    (λ c. let l = c .before .loop in let s = c .before .before .before .args in omega (arith, l .inv .so-far, l .inv .within, count-le (l .k) (behind (s .i) (class (s .mask .now) (s .c)))))
+    (λ c. omega (arith, counted-le (c .before .loop .inv)))
     (λ c. counted-all (c .before .loop .inv) (omega arith)))

@@ -1,5 +1,6 @@
 //! The commands.
 
+pub mod brightness;
 pub mod compare;
 pub mod cut;
 pub mod encode;
@@ -47,8 +48,12 @@ fn with_ending(path: &Path, ending: &str) -> Option<PathBuf> {
 /// A picture, and the format of its file.
 fn read_picture(path: &Path, messages: &Messages) -> Result<(Picture, Format), Failure> {
     let file = input::read(path)?;
-    let picture = taken(path, picture::parse(&file), picture::odd(&file), messages)?;
-    Ok((picture, Format::of_file(&file).unwrap_or(Format::Pgm)))
+    Ok((picture_of(path, &file, messages)?, Format::of_file(&file).unwrap_or(Format::Pgm)))
+}
+
+/// The picture that the bytes of a file are.
+fn picture_of(path: &Path, file: &[u8], messages: &Messages) -> Result<Picture, Failure> {
+    taken(path, picture::parse(file), picture::odd(file), messages)
 }
 
 /// A bitmap: a region or a mask.
@@ -68,7 +73,11 @@ fn taken<T>(path: &Path, parsed: Result<T, String>, odd: Option<String>, message
 
 /// A stream's file, whole or what a call that broke off has left of it. Its header is accepted.
 fn read_stream(path: &Path, messages: &Messages) -> Result<Stream, Failure> {
-    let bytes = input::read(path)?;
+    stream_of(path, input::read(path)?, messages)
+}
+
+/// The stream that the bytes of a file are.
+fn stream_of(path: &Path, bytes: Vec<u8>, messages: &Messages) -> Result<Stream, Failure> {
     let advice = causes::advice(&bytes);
     let stream = Stream::of(bytes).map_err(|failure| failure.with(advice).of(&input::name(path)))?;
     messages.progress(stream.setting.area(), "reading the stream");

@@ -20,7 +20,7 @@ fn rows(here: &Folder, name: &str) -> Vec<String> {
     found.samples.chunks(found.width).map(row).collect()
 }
 
-fn put(here: &Folder, name: &str, made: &Bitmap) {
+pub fn put(here: &Folder, name: &str, made: &Bitmap) {
     here.put(name, bitmap::format(made).unwrap());
 }
 
@@ -29,12 +29,12 @@ fn read(here: &Folder, name: &str) -> Bitmap {
 }
 
 /// A bitmap that is one sample everywhere.
-fn all(width: usize, height: usize, sample: u8) -> Bitmap {
+pub fn all(width: usize, height: usize, sample: u8) -> Bitmap {
     Bitmap { width, height, samples: vec![sample; width * height] }
 }
 
 /// A bitmap with about one of so many samples inside.
-fn scattered(seed: u64, width: usize, height: usize, one_of: u8) -> Bitmap {
+pub fn scattered(seed: u64, width: usize, height: usize, one_of: u8) -> Bitmap {
     let samples = noise(seed, width * height).into_iter().map(|byte| u8::from(byte % one_of == 0)).collect();
     Bitmap { width, height, samples }
 }

@@ -58,6 +58,7 @@ fn the_file_is_not_mended() {
     here.put("part", &WORKED[..23]);
     here.ends("info part", 1, "23 of 24 bytes arrived");
     here.ends("show part out.pgm", 1, "23 of 24 bytes arrived");
+    here.ends("brightness part", 1, "23 of 24 bytes arrived");
     assert_eq!(here.get("part"), &WORKED[..23]);
 }
 
@@ -79,6 +80,7 @@ fn a_header_that_is_not_whole_is_refused() {
         here.put("part", &WORKED[..length]);
         here.ends("info part", 3, "refused 12: the stream is shorter than its header");
         here.ends("show part out", 3, "where a header has 14 at least");
+        here.ends("brightness part", 3, "where a header has 14 at least");
     }
     for length in [14, 21] {
         here.put("part", &WORKED[..length]);
@@ -87,6 +89,7 @@ fn a_header_that_is_not_whole_is_refused() {
     }
     here.put("part", &WORKED[..22]);
     here.ends("info part", 1, "22 of 24 bytes arrived");
+    here.ends("brightness part", 1, "22 of 24 bytes arrived; not every bit of the rectangle arrived: 1 of 1 line");
 }
 
 #[test]
@@ -95,7 +98,8 @@ fn a_file_longer_than_its_field_says_is_refused() {
     here.put("long", [&WORKED[..], b"x"].concat());
     here.put("in.pgm", "P2 2 2 255  10 7 4 4 ");
     let words = "long: refused 12: the length field does not fit the length: 25 bytes, where by that field they are 24";
-    for line in ["info long", "show long out", "cut long out --mark", "compare in.pgm in.pgm --stream long"] {
+    let compare = "compare in.pgm in.pgm --stream long";
+    for line in ["info long", "show long out", "cut long out --mark", compare, "brightness long"] {
         here.ends(line, 3, words);
     }
     here.ends("info long", 3, "other bytes stand behind it, which 'head -c 24 IN > OUT' takes off");

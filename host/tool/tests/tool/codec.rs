@@ -81,6 +81,9 @@ fn noise_never_panics() {
             here.run(&format!("cut {name} out --length {length}"));
             here.run(&format!("encode {name} out --levels 1"));
             here.run(&format!("compare {name} file.pgm"));
+            here.run(&format!("brightness {name}"));
+            here.run(&format!("brightness {name} --rect 0,0,1,1"));
+            here.run(&format!("brightness {name} --region file.pbm"));
             here.run(&format!("mask {name} out --levels 1"));
             here.run(&format!("join {name} {name} out --rect 0,0,1,1"));
         }
@@ -117,6 +120,10 @@ fn the_demonstration() {
     }
     assert_eq!(row("cut-0098354-level-0.pgm"), "is the same picture as cut-0098354.pgm");
     assert_eq!(here.get("shots/cut-0098354-level-0.pgm"), here.get("shots/cut-0098354.pgm"));
+    // The line that the man page has.
+    let line = "number=4761 sum=858360 quotient=180 remainder=1380 exact=yes rect=109,234,69,69";
+    assert!(include_str!("../../man/dhiirqobaal.1").contains(line));
+    assert_eq!(here.run("brightness shots/panel.stream --rect 109,234,69,69").said(), format!("{line}\n"));
     here.put("part", &here.get("marked")[..57_600]);
     here.ends("show part part.pgm", 1, "57,600 of 98,354 bytes arrived; not every bit of the 8 rectangles arrived");
 }

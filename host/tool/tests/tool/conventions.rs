@@ -6,21 +6,21 @@ use std::ffi::OsStr;
 use std::fs;
 use std::os::unix::ffi::OsStrExt;
 
-const COMMANDS: [&str; 8] = ["encode", "info", "cut", "show", "compare", "mask", "join", "demo"];
+const COMMANDS: [&str; 9] = ["encode", "info", "cut", "show", "compare", "brightness", "mask", "join", "demo"];
 
 #[test]
 fn help_and_version_on_every_command() {
     let here = Folder::new();
     for words in ["-V", "--version"] {
         let answer = here.run(words);
-        assert_eq!((answer.status, answer.said().as_str()), (0, "dhiirqobaal 1.2.0\n"));
+        assert_eq!((answer.status, answer.said().as_str()), (0, "dhiirqobaal 1.3.0\n"));
     }
     for command in COMMANDS {
         for words in ["-h", "--help"] {
             here.ends(&format!("{command} {words}"), 0, &format!("dhiirqobaal {command}"));
         }
         here.ends(&format!("help {command}"), 0, &format!("dhiirqobaal {command}"));
-        assert_eq!(here.run(&format!("{command} --version")).said(), "dhiirqobaal 1.2.0\n");
+        assert_eq!(here.run(&format!("{command} --version")).said(), "dhiirqobaal 1.3.0\n");
         here.ends("help", 0, &format!("\n  {command}"));
     }
     for line in ["help --help", "help -h", "help help", "help --version"] {
@@ -29,13 +29,16 @@ fn help_and_version_on_every_command() {
     for words in ["5/3 with 3 levels, the default", "96,735", "More levels show the rest of the picture"] {
         here.ends("encode --help", 0, words);
     }
+    for words in ["number=N sum=S quotient=Q remainder=R exact=E rect=X,Y,W,H", "Numbers and sums add up"] {
+        here.ends("brightness --help", 0, words);
+    }
     for words in ["black is inside", "The mask lies where the coefficients lie", "in the upper left the lows"] {
         here.ends("mask --help", 0, words);
     }
     here.ends("join --help", 0, "The mask of joined regions is the join of their masks, byte for byte");
 }
 
-const WRONG: [&str; 53] = [
+const WRONG: [&str; 63] = [
     "",
     "decode in.pgm out",
     "encode",
@@ -71,6 +74,16 @@ const WRONG: [&str; 53] = [
     "compare in.pgm",
     "compare in.pgm in.pgm --stream s --rect 0,0,1,1",
     "compare in.pgm in.pgm --stream s --rects s",
+    "brightness",
+    "brightness in.pgm",
+    "brightness unmarked",
+    "brightness s s",
+    "brightness s --rect 1,2,3",
+    "brightness s --region in.pbm --rect 0,0,1,1",
+    "brightness s --region in.pbm --rects s",
+    "brightness s --region in.pbm --region in.pbm",
+    "brightness s --level 1",
+    "brightness s --depth 8",
     "mask",
     "mask in.pbm",
     "mask in.pbm out third",
@@ -97,12 +110,13 @@ fn wrong_usage() {
     here.put("in.pgm", noise_picture(8, 8));
     here.put("in.pbm", "P1 2 1 01");
     here.put("s", WORKED);
+    here.put("unmarked", UNMARKED);
     for line in WRONG {
         let answer = here.run(line);
         assert_eq!(answer.status, 2, "{line}: {}", answer.said());
         assert!(answer.out.is_empty() && answer.err.contains("--help") || line.is_empty(), "{line}: {}", answer.err);
     }
-    assert_eq!(here.names(), ["in.pbm", "in.pgm", "s"]);
+    assert_eq!(here.names(), ["in.pbm", "in.pgm", "s", "unmarked"]);
 }
 
 #[test]
@@ -170,7 +184,9 @@ fn quiet_says_nothing_but_failures() {
         assert_eq!((answer.status, answer.said().as_str()), (status, ""), "{line}");
     }
     here.ends("info -q none", 4, "none: no such file or directory");
+    // Data is no saying.
     here.ends("info -q --json part", 1, "\"arrived\":");
+    here.ends("brightness -q part", 1, "number=45 sum=");
 }
 
 /// Progress is said on a terminal alone; script makes one, where the machine has it.

@@ -17,6 +17,8 @@ fn what_arrived_is_not_called_right() {
     here.ends("show changed out.pgm", 0, "they are exact unless the link changed a bit");
     here.ends("compare in.pgm out.pgm --stream changed", 1, "differ");
     here.ends("info --help", 0, "that all marked bits arrived does not say that they are right");
+    here.ends("brightness changed", 0, " exact=yes rect=3,2,9,5\n");
+    here.ends("brightness --help", 0, "that was captured, unless the link changed a bit");
 }
 
 #[test]

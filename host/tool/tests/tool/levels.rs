@@ -17,7 +17,7 @@ fn side(side: usize, level: usize) -> usize {
     (0..level).fold(side, |side, _| halved(side))
 }
 
-fn picture(here: &Folder, name: &str) -> Picture {
+pub fn picture(here: &Folder, name: &str) -> Picture {
     picture::parse(&here.get(name)).unwrap()
 }
 

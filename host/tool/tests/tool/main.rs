@@ -2,6 +2,7 @@
 //! the help text, the files to what they should be byte by byte.
 
 mod bitmaps;
+mod brightness;
 mod broken_call;
 mod codec;
 mod conventions;

@@ -30,6 +30,12 @@ fn the_rectangle() {
     refused(&here, &format!("encode in.pgm out{}", " --rect 0,0,1,1".repeat(33)), &["refused 7", "(there are 33)"]);
     let compare = "compare in.pgm in.pgm --rect 0,0,9,1";
     refused(&here, compare, &["in.pgm: refused 8", "rectangle 1 of 1, 0,0,9,1", "; a rectangle is x,y,w,h or WxH+X+Y"]);
+    let brightness = "brightness in.pgm --rect 0,0,9,1";
+    refused(
+        &here,
+        brightness,
+        &["in.pgm: refused 8", "rectangle 1 of 1, 0,0,9,1", "; a rectangle is x,y,w,h or WxH+X+Y"],
+    );
     let mut stream = WORKED.to_vec();
     stream[19] = 3;
     here.put("bad", stream);
@@ -147,7 +153,7 @@ fn the_number_in_a_stream() {
         (with(3, 0x13), "24 bytes, where by that field they are 23"),
     ] {
         here.put("bad", stream);
-        for line in ["info bad", "show bad out", "cut bad out --length 24"] {
+        for line in ["info bad", "show bad out", "cut bad out --length 24", "brightness bad"] {
             refused(&here, line, &[words]);
         }
     }
@@ -186,6 +192,12 @@ fn files_that_cannot_be_used() {
         ("cut folder out --length 9", "folder: is a directory"),
         ("compare in.pgm folder", "folder: is a directory"),
         ("compare in.pgm in.pgm --stream missing", "missing: no such file"),
+        ("brightness missing", "missing: no such file"),
+        ("brightness folder", "folder: is a directory"),
+        ("brightness in.pgm --rects missing", "missing: no such file"),
+        ("brightness in.pgm --region folder", "folder: is a directory"),
+        ("brightness in.pgm --region empty", "empty: the file is empty; PBM files"),
+        ("brightness in.pgm --region in.pgm", "in.pgm: a PGM picture, not a bitmap"),
         ("mask missing out", "missing: no such file"),
         ("mask folder out", "folder: is a directory"),
         ("mask empty out", "empty: the file is empty; PBM files"),

@@ -134,8 +134,10 @@ fn a_device_without_room() {
     let full = fs::OpenOptions::new().write(true).open("/dev/full").unwrap();
     let status = here.program("show s -").stdout(full.try_clone().unwrap()).status().unwrap();
     assert_eq!(status.code(), Some(4));
-    let status = here.program("--help").stdout(full).status().unwrap();
-    assert_eq!(status.code(), Some(4));
+    for line in ["brightness s", "--help"] {
+        let status = here.program(line).stdout(full.try_clone().unwrap()).status().unwrap();
+        assert_eq!(status.code(), Some(4), "{line}");
+    }
 }
 
 /// A file system of its own with room for 64 KiB, where the machine lets a user make one.
@@ -231,6 +233,8 @@ fn standard_input_and_output_that_are_the_same_file() {
         ("\"$0\" show - s < s", "standard input and s are the same file"),
         ("\"$0\" show s - >> s", "s and standard output are the same file"),
         ("\"$0\" show - - < s >> s", "standard input and standard output are the same file"),
+        ("\"$0\" brightness s >> s", "s and standard output are the same file"),
+        ("\"$0\" brightness - < s >> s", "standard input and standard output are the same file"),
     ] {
         let mut command = here.command("sh");
         command.args(["-c", script, program_path()]);

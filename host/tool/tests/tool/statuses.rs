@@ -73,6 +73,23 @@ fn of_an_encoder() {
 }
 
 #[test]
+fn of_a_measurement() {
+    let here = Folder::new();
+    let (mark, _) = two_rectangles(&here, "");
+    here.put("exact", &here.get("all.stream")[..mark]);
+    here.put("short", &here.get("all.stream")[..mark - 1]);
+    here.put("bad", &here.get("all.stream")[..20]);
+    for (name, status) in [("all.stream", 0), ("exact", 0), ("short", 1), ("bad", 3), ("none", 4), ("in.pgm", 2)] {
+        here.ends(&format!("brightness {name}"), status, "");
+    }
+    here.ends("brightness exact --rect 0,0,31,17", 1, "exact=no");
+    here.ends("brightness all.stream --rect 0,0,31,17", 0, "exact=yes");
+    here.ends("brightness in.pgm --rect 0,0,31,17", 0, "exact=unknown");
+    here.ends("brightness in.pgm --rect 0,0,32,17", 3, "refused 8");
+    here.ends("brightness in.pgm --region none", 4, "none: no such file or directory");
+}
+
+#[test]
 fn of_a_bitmap() {
     let here = Folder::new();
     here.put("a.pbm", "P1 2 1 01");
@@ -130,6 +147,8 @@ fn help_tells_every_status() {
         "cut --help",
         "show -h",
         "compare -h",
+        "brightness -h",
+        "brightness --help",
         "mask -h",
         "mask --help",
         "join --help",
