@@ -7,7 +7,7 @@ use borrow.Author.Tests.{eq-eqb, ne-eqb}
 use lib.Dec.{eqb, eqb·suc-zero}
 use Rattle.refusal.specs.Numbers.{first}
 use Rattle.refusal.proofs.Ordered.{ordered}
-use Rattle.brightness.specs.Brightness.{number, sum, brightnessTests, Numbers, refusedWith, brightnessNumbers}
+use Rattle.brightness.specs.Brightness.{number, sum, brightnessTests, refusedWith, brightnessNumbers}
 
 -- 19, by the number that was found
 pub no-sample : (n m : ℕ) → m ≡ n → m ≡ 0 → eqb n 0 ≡ true

@@ -1,5 +1,4 @@
 -- `brightness::brightness` gives the brightness of a region, or refuses. Assumes nothing.
-use borrow.Author.Needs.{needs}
 use mathlib.Core.Path.{sym, _∙_}
 use native.Mathlib.Omega.{arith}
 use Rattle.refusal.proofs.Passed.{sides, area}
