@@ -3,17 +3,17 @@ use mathlib.Core.Path.{_≡_, refl, ap, _∙_}
 use mathlib.Core.Logic.{_≢_}
 use mathlib.Core.Bool.{Bool, true, false, _||_}
 use mathlib.Core.List.{List}
-use Prim.Native.Nat.{ℕ, _+_, _*_, _/_, _%_, _<_, _≤_}
+use Prim.Native.Nat.{ℕ, _+_, _*_, _/_, _%_, _<_}
 use native.Mathlib.Nat.{div-add-mod', mod-lt}
 use native.Mathlib.Omega.{arith}
 use borrow.Author.Tests.{eq-eqb, eqb-true, eqb-false, ltb-true, ne-eqb, not-false}
 use lib.ListN.{length, getD}
 use Rattle.line.specs.Cells.{choose, total, count}
-use Rattle.line.specs.Mask.{marked, byteOf}
+use Rattle.line.specs.Mask.{marked}
 use Rattle.line.proofs.Cells.{by-bool}
 use Rattle.line.proofs.Counts.{total-same, total-sum}
 use Rattle.line.proofs.Lists.{listed-length, listed-cell}
-use Rattle.line.proofs.Marks.{any-elim}
+use Rattle.line.proofs.Marks.{byte-most, any-elim}
 use Rattle.refusal.specs.Numbers.{first, accepted}
 use Rattle.refusal.specs.Tests.{badSize, badLength, badMark}
 use Rattle.refusal.proofs.Ordered.{passes-test}
@@ -90,14 +90,10 @@ module _ (W H : ℕ) (picture a b : List ℕ) (p : Passed W H picture a) (q : Pa
   unfolding count
   numbers = parted (λ i. 1)
 
-  byte-le : (m : Bool) → byteOf m ≤ 1
-  byte-le true = omega arith
-  byte-le false = omega arith
-
   binary : badMark both ≡ false
   unfolding badMark
   binary = not-any _ (λ t. any-elim (length both) _ t (λ i h e.
-      absurd (omega (arith, ltb-true 1 (getD both i 0) e, listed-cell (W * H) (joinByte a b) 0 i (omega (arith, full)), byte-le (marked (getD a i 0) || marked (getD b i 0))))))
+      absurd (omega (arith, ltb-true 1 (getD both i 0) e, listed-cell (W * H) (joinByte a b) 0 i (omega (arith, full)), byte-most (marked (getD a i 0) || marked (getD b i 0))))))
 
   joined-ok : accepted (brightnessTests W H picture both) ≡ true
   unfolding first

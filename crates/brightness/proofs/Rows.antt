@@ -8,7 +8,7 @@ use mathlib.Core.Path.{_≡_, sym, ap, ap₂, _∙_}
 use mathlib.Core.Bool.{Bool, false, _||_}
 use mathlib.Core.List.{List}
 use Prim.Native.Nat.{ℕ, _+_, _*_, _<_, _≤_}
-use native.Mathlib.Nat.{add-mul, suc-mul, zero-mul, one-mul, mul-comm, mul-le-mul, mul-le-mul-right}
+use native.Mathlib.Nat.{add-mul, zero-mul, one-mul, mul-comm, mul-le-mul}
 use native.Mathlib.Omega.{arith}
 use lib.Dec.{ltb}
 use lib.ListN.{length, getD}
@@ -17,6 +17,7 @@ use Rattle.line.specs.Mask.{anyBelow}
 use Rattle.line.proofs.Counts.{count-le, total-add, count-add}
 use Rattle.line.proofs.Marks.{any-add}
 use Rattle.refusal.specs.Tests.{badMark}
+use Rattle.refusal.proofs.Passed.{row-fits}
 use Rattle.brightness.specs.Brightness.{has, number, regionSample, sum}
 use Rattle.brightness.specs.Inner.{Sized}
 
@@ -49,9 +50,8 @@ module _ {picture region : List ℕ} {w h : ℕ} where
   -- a row ends in the picture
   pub row-in : {y : ℕ} → Sized w h picture region → y < h → (y * w + w ≤ length picture) × (y * w + w ≤ length region) × (y * w + w ≤ 16777216)
   row-in {y} s lt =
-      let e : y * w + w ≤ w * h = rw (mul-comm w h, ← suc-mul y w) (mul-le-mul-right w lt) in
       let most : w * h ≤ 4096 * 4096 = mul-le-mul (s .width) (s .height) in
-      (omega (arith, s .picture-size), omega (arith, s .region-size), omega arith)
+      (row-fits y w h _ lt (omega (arith, s .picture-size)), row-fits y w h _ lt (omega (arith, s .region-size)), row-fits y w h _ lt (omega arith))
 
   -- a fact for `omega`: the next number fits where the next row does
   pub rows-next : {y n s m : ℕ} {bad : Bool} → Rows picture region w h y n s bad → m ≡ count w (behind (y * w) (has region)) → n + m ≤ y * w + w

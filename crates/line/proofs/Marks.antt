@@ -23,6 +23,10 @@ byte-of zero h = refl
 byte-of (suc zero) h = refl
 byte-of (suc (suc n)) h = absurd (omega arith)
 
+pub byte-most : (m : Bool) → byteOf m ≤ 1
+byte-most true = omega arith
+byte-most false = omega arith
+
 pub or-byte : (a b : Bool) → bitOr (byteOf a) (byteOf b) ≡ byteOf (a || b)
 or-byte true true = refl
 or-byte true false = refl

@@ -16,6 +16,7 @@ use Rattle.kernel.specs.declared.Kernel.{Kernel}
 use Rattle.line.specs.Cells.{Line, choose, lowSide}
 use Rattle.line.specs.Mask.{maskLine, marked, byteOf}
 use Rattle.line.proofs.Cells.{by-lt}
+use Rattle.line.proofs.Marks.{byte-most}
 use Rattle.grid.specs.Picture.{Picture, Transform, onLine, rowPass, turned, colPass, picture}
 use Rattle.grid.proofs.Running.{col-places, whole-rows}
 use Rattle.grid.specs.Buffer.{InBuffer, Lines}
@@ -60,10 +61,6 @@ module _ {T : Transform ℕ} {W w h : ℕ} {l₀ l l′ : List ℕ} (local : Loc
   }
 
 -- ---- bytes that are marks, before a pass and after
-byte-most : (m : Bool) → byteOf m ≤ 1
-byte-most true = omega arith
-byte-most false = omega arith
-
 choose-most : (b : Bool) (m n : ℕ) → m ≤ 1 → n ≤ 1 → choose b m n ≤ 1
 choose-most true m n p q = p
 choose-most false m n p q = q

@@ -6,8 +6,8 @@
 use mathlib.Core.Path.{_≡_, refl, sym, _∙_}
 use mathlib.Core.Bool.{Bool, true, false, _||_, false≢true}
 use mathlib.Core.List.{List}
-use Prim.Native.Nat.{ℕ, _*_, _-_, _^_, _<_, _≤_}
-use native.Mathlib.Nat.{mul-le-mul}
+use Prim.Native.Nat.{ℕ, _+_, _*_, _-_, _^_, _<_, _≤_}
+use native.Mathlib.Nat.{mul-comm, suc-mul, mul-le-mul, mul-le-mul-right}
 use native.Mathlib.Omega.{arith}
 use borrow.Author.Tests.{ltb-false, leb-false}
 use lib.Dec.{ltb, leb}
@@ -47,6 +47,10 @@ area-most {W} {H} s = let h : W * H ≤ 4096 * 4096 = mul-le-mul (s .width .1) (
 
 pub area : {W H : ℕ} → Sides W H → Fits w64 (W * H)
 area s = omega (arith, area-most s)
+
+-- row y of h rows ends among the n cells of them all
+pub row-fits : (y w h n : ℕ) → y < h → w * h ≤ n → y * w + w ≤ n
+row-fits y w h n p q = omega (arith, mul-le-mul-right w p, suc-mul y w, mul-comm w h)
 
 -- ---- cells
 pub samples : (D : ℕ) (l : List ℕ) → badSample D l ≡ false → (i : ℕ) → i < length l → getD l i 0 ≤ 2 ^ D - 1

@@ -12,6 +12,7 @@ use Rattle.kernel.specs.declared.Kernel.{Kernel}
 use Rattle.line.specs.Mask.{byteOf}
 use Rattle.line.proofs.Cells.{by-lt}
 use Rattle.line.proofs.Lists.{listed-length, listed-cell, is-listed}
+use Rattle.line.proofs.Marks.{byte-most}
 use Rattle.grid.specs.Picture.{Picture, picture}
 use Rattle.grid.specs.Placed.{placed}
 use Rattle.grid.proofs.Passes.{cell}
@@ -25,10 +26,6 @@ use Rattle.region.proofs.Placed.{rectangles-framed}
 use Rattle.picture_mask.specs.Areas.{Region, bytes, maskOn}
 use Rattle.shot.specs.Inner.{Drawable}
 use Rattle.shot.specs.Shots.{drawn, maskBytes}
-
-byte-most : (b : Bool) → byteOf b ≤ 1
-byte-most true = omega arith
-byte-most false = omega arith
 
 -- ---- as many bytes as coefficients, each 0 or 1
 module _ (k : Kernel) (J W H : ℕ) (l : List ℕ) where

@@ -1,14 +1,11 @@
 -- `showshot::rows` prints h rows of w samples. Assumes nothing.
-use Prim.Native.Nat.{ℕ, _+_, _*_, _-_, _<_, _≤_}
-use native.Mathlib.Nat.{mul-comm, suc-mul, mul-le-mul-right}
+use Prim.Native.Nat.{_-_, _≤_}
 use native.Mathlib.Omega.{arith}
 use lib.ListN.{length}
 use borrow.Author.Needs.{needs}
+use Rattle.refusal.proofs.Passed.{row-fits}
 use Rattle.showshot.proofs.rows.Statement.{statement}
 use Rattle.showshot.proofs.rows.Tie as tie
-
-row-fits : (y w h n : ℕ) → y < h → w * h ≤ n → y * w + w ≤ n
-row-fits y w h n p q = omega (arith, mul-le-mul-right w p, suc-mul y w, mul-comm w h)
 
 abbrev Inv-loop : tie.InvT-loop
 Inv-loop shown w h y₀ y = y ≤ h
