@@ -146,7 +146,7 @@ stack=$(INTERFACE_LIBRARY=${INTERFACE_LIBRARY:-$root/target/staticlib/libinterfa
     echo
     echo "## Stack"
     echo
-    echo "The deepest that each C function was seen to go on pictures of 4,096 by 4,096, 4,095 by 61 and 61 by 4,095 with five levels, over all kernels, and the limit that the C header states. Below 256 bytes nothing is told apart."
+    echo "The deepest that each C function was seen to go on pictures of 4,096 by 4,096, 4,095 by 257 and 257 by 4,095 with five levels, over all kernels, and the limit that the C header states. Below 256 bytes nothing is told apart."
     echo
     echo "$stack" | grep '^|'
 } >"$out"

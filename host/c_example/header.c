@@ -154,8 +154,8 @@ void check_version(void) {
     char text[16];
     snprintf(text, sizeof text, "%d.%d.%d", DHIIRQOBAAL_VERSION_MAJOR, DHIIRQOBAAL_VERSION_MINOR, DHIIRQOBAAL_VERSION_PATCH);
     expect(dhiirqobaal_version() == DHIIRQOBAAL_VERSION, "the library's version is the header's");
-    expect(DHIIRQOBAAL_VERSION == 10300, "the version's number");
-    expect(strcmp(DHIIRQOBAAL_VERSION_TEXT, text) == 0 && strcmp(text, "1.3.0") == 0, "the version's text");
+    expect(DHIIRQOBAAL_VERSION == 10301, "the version's number");
+    expect(strcmp(DHIIRQOBAAL_VERSION_TEXT, text) == 0 && strcmp(text, "1.3.1") == 0, "the version's text");
 }
 
 /* Each text speaks of what docs/FORMAT.md refuses under its number. */

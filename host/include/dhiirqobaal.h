@@ -183,7 +183,7 @@
  *
  * Its working memory is on the stack. Each function's description says how many bytes below the caller's stack pointer
  * a call needs at most (DHIIRQOBAAL_STACK_READ and so on), with memcpy and memset of the GNU C library; host/stack
- * measures them on pictures of 4,096 by 4,096, 4,095 by 61 and 61 by 4,095 with five levels, and calls each function on a thread
+ * measures them on pictures of 4,096 by 4,096, 4,095 by 257 and 257 by 4,095 with five levels, and calls each function on a thread
  * that has little more. Every page of a large frame is touched in turn, so that one guard page below the stack is
  * enough. A program that looks up memcpy and memset at their first call needs more in that call: link it with -z now.
  *
@@ -215,10 +215,10 @@ extern "C" {
 /* The version: of this header, and by dhiirqobaal_version of the library. 10,000 major + 100 minor + patch. */
 #define DHIIRQOBAAL_VERSION_MAJOR 1
 #define DHIIRQOBAAL_VERSION_MINOR 3
-#define DHIIRQOBAAL_VERSION_PATCH 0
+#define DHIIRQOBAAL_VERSION_PATCH 1
 #define DHIIRQOBAAL_VERSION \
     (10000 * DHIIRQOBAAL_VERSION_MAJOR + 100 * DHIIRQOBAAL_VERSION_MINOR + DHIIRQOBAAL_VERSION_PATCH)
-#define DHIIRQOBAAL_VERSION_TEXT "1.3.0"
+#define DHIIRQOBAAL_VERSION_TEXT "1.3.1"
 
 /* The limits. */
 #define DHIIRQOBAAL_MAX_SIDE 4096
@@ -243,10 +243,10 @@ extern "C" {
 #define DHIIRQOBAAL_STACK_SHOW_LEVEL 20480
 #define DHIIRQOBAAL_STACK_BRIGHTNESS 1024
 #define DHIIRQOBAAL_STACK_TRUNCATE 1024
-#define DHIIRQOBAAL_STACK_WRITE 40960
-#define DHIIRQOBAAL_STACK_READ 40960
-#define DHIIRQOBAAL_STACK_SHOW_STREAM 61440
-#define DHIIRQOBAAL_STACK_CUT 40960
+#define DHIIRQOBAAL_STACK_WRITE 368640
+#define DHIIRQOBAAL_STACK_READ 368640
+#define DHIIRQOBAAL_STACK_SHOW_STREAM 385024
+#define DHIIRQOBAAL_STACK_CUT 368640
 #define DHIIRQOBAAL_STACK_BODY 1024
 #define DHIIRQOBAAL_STACK_ARRIVED 1024
 #define DHIIRQOBAAL_STACK_HEADER 4096
@@ -507,7 +507,7 @@ uint64_t dhiirqobaal_truncate(size_t q, size_t w, size_t h, const uint8_t *mask,
  * a full call: a stream pointer that is not null, the mask buffer of W * H bytes, which the call fills with the mask,
  * and a cell of results.
  * Under 1, 2, 3, 4, 7, 8, 5 and 10: mask and stream hold what they held, results[0] to results[2] are 0.
- * It needs at most 40,960 bytes of stack, DHIIRQOBAAL_STACK_WRITE.
+ * It needs at most 368,640 bytes of stack, DHIIRQOBAAL_STACK_WRITE.
  */
 uint64_t dhiirqobaal_write(const int32_t *plane, size_t plane_len, const uint32_t *numbers, size_t numbers_len,
                            size_t kernel, size_t levels, size_t depth, size_t w, size_t h, uint8_t *mask,
@@ -529,7 +529,7 @@ uint64_t dhiirqobaal_write(const int32_t *plane, size_t plane_len, const uint32_
  * nothing is unmarked. The plane is accepted by dhiirqobaal_undo and dhiirqobaal_show_level.
  * Under 16: plane and mask are all 0, the 139 result numbers are 0.
  * Under 12, 13, 1, 2, 3, 4, 7, 8, 14 and 5: plane and mask hold what they held, the 139 result numbers are 0.
- * It needs at most 40,960 bytes of stack, DHIIRQOBAAL_STACK_READ.
+ * It needs at most 368,640 bytes of stack, DHIIRQOBAAL_STACK_READ.
  */
 uint64_t dhiirqobaal_read(const uint8_t *stream, size_t stream_len, int32_t *plane, size_t plane_len, uint8_t *mask,
                           size_t mask_len, uint64_t *results, size_t results_len);
@@ -552,7 +552,7 @@ uint64_t dhiirqobaal_read(const uint8_t *stream, size_t stream_len, int32_t *pla
  * Under 16: plane and mask are all 0, undone and shown hold what they held, the 139 result numbers are 0.
  * Under 12, 13, 1, 2, 17, 3, 4, 7, 8, 14 and 5: plane, mask, undone and shown hold what they held, the 139 result
  * numbers are 0.
- * It needs at most 61,440 bytes of stack, DHIIRQOBAAL_STACK_SHOW_STREAM.
+ * It needs at most 385,024 bytes of stack, DHIIRQOBAAL_STACK_SHOW_STREAM.
  */
 uint64_t dhiirqobaal_show_stream(const uint8_t *stream, size_t stream_len, size_t r, int32_t *plane, size_t plane_len,
                                  uint8_t *mask, size_t mask_len, int32_t *undone, size_t undone_len, uint16_t *shown,
@@ -576,7 +576,7 @@ uint64_t dhiirqobaal_show_stream(const uint8_t *stream, size_t stream_len, size_
  * Under 11: the same, but results[0] is the needed length, `wanted`.
  * Under 16: out holds what it held; plane and mask are all 0; results[0] is 0.
  * Under 12, 13, 1, 2, 3, 4, 7, 8, 14 and 5: out, plane and mask hold what they held; results[0] is 0.
- * It needs at most 40,960 bytes of stack, DHIIRQOBAAL_STACK_CUT.
+ * It needs at most 368,640 bytes of stack, DHIIRQOBAAL_STACK_CUT.
  */
 uint64_t dhiirqobaal_cut(const uint8_t *stream, size_t stream_len, size_t wanted, int32_t *plane, size_t plane_len,
                          uint8_t *mask, size_t mask_len, uint8_t *out, size_t out_len, uint64_t *results,
@@ -627,7 +627,7 @@ uint64_t dhiirqobaal_arrived(uint8_t *stream, size_t stream_len, uint64_t *resul
 uint64_t dhiirqobaal_header(const uint8_t *stream, size_t stream_len, uint64_t *results, size_t results_len);
 
 /*
- * The library's version, 10,000 major + 100 minor + patch: 10300 for 1.3.0. A program that was compiled with the header
+ * The library's version, 10,000 major + 100 minor + patch: 10301 for 1.3.1. A program that was compiled with the header
  * of the same version finds it equal to DHIIRQOBAAL_VERSION. It takes nothing and refuses nothing.
  * It needs at most 1,024 bytes of stack, DHIIRQOBAAL_STACK_VERSION.
  */

@@ -182,7 +182,10 @@ void get_buffers(void)
     cut = room(STREAM_BYTES, 1);
 }
 
-/* Broad stripes of two values: few bit planes, so that writing and reading are quick. */
+/*
+ * Broad stripes of two values: few bit planes, so that writing and reading are quick. The rectangles are small, since few
+ * marks in a large picture take the most stack.
+ */
 void draw(size_t w, size_t h)
 {
     width = w;
@@ -194,7 +197,7 @@ void draw(size_t w, size_t h)
     for (size_t i = 0; i < DHIIRQOBAAL_MAX_RECTANGLES; ++i) {
         numbers[4 * i] = (uint32_t)(w * i / 34);
         numbers[4 * i + 1] = (uint32_t)(h * i / 34);
-        numbers[4 * i + 2] = (uint32_t)(w / 41 + 1);
-        numbers[4 * i + 3] = (uint32_t)(h / 41 + 1);
+        numbers[4 * i + 2] = (uint32_t)(w / 200 + 1);
+        numbers[4 * i + 3] = (uint32_t)(h / 200 + 1);
     }
 }

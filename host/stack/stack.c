@@ -42,8 +42,8 @@ int main(void)
 {
     get_buffers();
     run_all(DHIIRQOBAAL_MAX_SIDE, DHIIRQOBAAL_MAX_SIDE, 0);
-    run_all(DHIIRQOBAAL_MAX_SIDE - 1, 61, 1);
-    run_all(61, DHIIRQOBAAL_MAX_SIDE - 1, 1);
+    run_all(DHIIRQOBAAL_MAX_SIDE - 1, 257, 1);
+    run_all(257, DHIIRQOBAAL_MAX_SIDE - 1, 1);
     puts("| function | bytes of stack | limit, bytes |\n|:--|---:|---:|");
     for (size_t i = 0; i < function_count; ++i) {
         printf("| %s | %zu | %zu |\n", functions[i].name, functions[i].deepest, functions[i].limit);

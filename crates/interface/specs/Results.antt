@@ -65,4 +65,4 @@ abbrev pub brightnessResults : brightness.Numbers → List ℕ
 brightnessResults n = n .number ∷ n .sum ∷ n .quotient ∷ n .remainder ∷ []
 
 abbrev pub libraryVersion : ℕ
-libraryVersion = 10000 * 1 + 100 * 3 + 0
+libraryVersion = 10000 * 1 + 100 * 3 + 1

@@ -496,5 +496,5 @@ pub extern "C" fn dhiirqobaal_brightness(
 pub extern "C" fn dhiirqobaal_version() -> u64
     ensures { λ r. ⌜ r ≡ libraryVersion ⌝ }
 {
-    10300
+    10301
 }

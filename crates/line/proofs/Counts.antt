@@ -29,10 +29,17 @@ count-on k (suc n) B h = by-lt n k
     (λ lt. let e : k ≡ suc n = omega arith in rw e (omega arith))
     (λ ge. omega (arith, count-on k n B ge))
 
--- a mark counts
-pub count-marked : (k n : ℕ) (B : ℕ → Bool) → k < n → B k ≡ true → count k B < count n B
+-- a mark counts, and no mark does not
+pub count-one : (k : ℕ) (B : ℕ → Bool) → B k ≡ true → count (suc k) B ≡ suc (count k B)
 unfolding count total
-count-marked k n B h o = let e : count (suc k) B ≡ count k B + 1 = rw o in omega (arith, count-on (suc k) n B h)
+count-one k B o = rw o (omega arith)
+
+pub count-off : (k : ℕ) (B : ℕ → Bool) → B k ≡ false → count (suc k) B ≡ count k B
+unfolding count total
+count-off k B o = rw o (omega arith)
+
+pub count-marked : (k n : ℕ) (B : ℕ → Bool) → k < n → B k ≡ true → count k B < count n B
+count-marked k n B h o = omega (arith, count-one k B o, count-on (suc k) n B h)
 
 pub record Totalled (X : ℕ → ℕ) (n i t : ℕ) : Type 0 where
   pub within : i ≤ n

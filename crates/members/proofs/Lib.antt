@@ -1,2 +1,3 @@
 -- The laws of the members of a class.
 pub mod Index
+pub mod Collection

@@ -1,10 +1,14 @@
-// Where the coefficients of a class lie, found once for all its passes: one bit for each 64 coefficients.
+// Where the coefficients of a class lie, found once for all its passes: one bit for each 64 coefficients. Or, where they are few, the
+// coefficients themselves, one behind the other.
 ghost use mathlib.Core.Path.{_≡_};
+ghost use mathlib.Core.Bool.{true};
 ghost use Prim.Native.Nat.{_+_, _/_, _<_, _≤_};
+ghost use lib.IntN.{pos};
 ghost use lib.ListN.{length};
-ghost use Rattle.line.specs.Cells.{choose, behind, count};
+ghost use Rattle.line.specs.Cells.{choose, behind, cell, count};
 ghost use Rattle.bitplane.specs.Body.{class};
 ghost use Rattle.members.specs.Index.{Flagged, Held, Indexed};
+ghost use Rattle.members.specs.Collection.{Collected, Listed, Kept};
 
 // 1 if coefficient i is of class c, else 0.
 pub fn member(mask: &[u8], c: u8, i: usize) -> u8
@@ -77,4 +81,103 @@ pub fn find(mask: &[u8], c: u8, index: &mut [u64])
     for k in 0..n {
         index[k] = word(mask, c, 4096 * k);
     }
+}
+
+// Whether class c, which has so many members in a plane of n coefficients, is collected for its passes: it fits into a list, and lies so far
+// apart that a pass over the plane would mostly wait for memory.
+pub fn few(members: usize, n: usize) -> bool
+    ensures { λ r. ⌜ (r ≡ true → members ≤ 65536) ⌝ }
+{
+    n >= 1048576 && members <= 65536
+}
+
+// Puts the places of the coefficients of class c from `from` to `to` behind the n that are in the list. The result is how many are in it then.
+fn place_run(mask: &[u8], c: u8, from: usize, to: usize, list: &mut [i32], n: usize) -> usize
+    requires { ⌜ (from ≤ to) × (to ≤ length (now mask)) × Listed (now mask) c (length (now mask)) (length (now list)) ⌝ }
+    requires { ⌜ Collected (class (now mask) c) pos from (cell (now list)) n ⌝ }
+    ensures { λ r. ⌜ Collected (class (now (mask .entry)) c) pos to (cell (now (list .exit))) r ⌝ }
+{
+    let mut m = n;
+    for i in from..to {
+        if mask[i] != c {
+            continue;
+        }
+        list[m] = i as i32;
+        m += 1;
+    }
+    m
+}
+
+// Puts the places of the coefficients of class c into the list, one behind the other. The result is how many there are.
+fn places(mask: &[u8], c: u8, list: &mut [i32]) -> usize
+    requires { ⌜ Listed (now mask) c (length (now mask)) (length (now list)) ⌝ }
+    ensures { λ r. ⌜ Collected (class (now (mask .entry)) c) pos (length (now (mask .entry))) (cell (now (list .exit))) r ⌝ }
+{
+    let blocks = mask.len() / 64;
+    let mut n = 0;
+    for b in 0..blocks {
+        if among(mask, c, 64 * b, 64) == 0 {
+            continue;
+        }
+        n = place_run(mask, c, 64 * b, 64 * b + 64, list, n);
+    }
+    place_run(mask, c, 64 * blocks, mask.len(), list, n)
+}
+
+// Puts the coefficients of class c into the list, one behind the other. The result is how many there are. Their places are found first: the
+// plane is then read without waiting for the mask.
+pub fn collect(plane: &[i32], mask: &[u8], c: u8, list: &mut [i32]) -> usize
+    requires { ⌜ Listed (now mask) c (length (now plane)) (length (now list)) ⌝ }
+    ensures { λ r. ⌜ Collected (class (now (mask .entry)) c) (cell (now (plane .entry))) (length (now (plane .entry))) (cell (now (list .exit))) r ⌝ }
+{
+    let n = places(mask, c, list);
+    for k in 0..n {
+        let place = whole::magnitude(list[k]) as usize;
+        list[k] = plane[place];
+    }
+    n
+}
+
+// Puts the members of a list, from its cell n on, where the coefficients of class c from `from` to `to` lie. The result is the cell behind
+// the last of them.
+fn spread_run(
+    list: &[i32],
+    mask: &[u8],
+    c: u8,
+    from: usize,
+    to: usize,
+    plane: &mut [i32],
+    n: usize,
+) -> usize
+    requires { ⌜ (from ≤ to) × (to ≤ length (now plane)) × Listed (now mask) c (length (now plane)) (length (now list)) ⌝ }
+    requires { ⌜ Collected (class (now mask) c) (cell (now plane)) from (cell (now list)) n ⌝ }
+    ensures { λ r. ⌜ Collected (class (now (mask .entry)) c) (cell (now (plane .exit))) to (cell (now (list .entry))) r ⌝ }
+    ensures { λ r. ⌜ Kept (class (now (mask .entry)) c) (cell (now (plane .entry))) (cell (now (plane .exit))) ⌝ }
+{
+    let mut m = n;
+    for i in from..to {
+        if mask[i] != c {
+            continue;
+        }
+        plane[i] = list[m];
+        m += 1;
+    }
+    m
+}
+
+// Puts the members of a list where the coefficients of class c lie. The result is how many there are.
+pub fn spread(list: &[i32], mask: &[u8], c: u8, plane: &mut [i32]) -> usize
+    requires { ⌜ Listed (now mask) c (length (now plane)) (length (now list)) ⌝ }
+    ensures { λ r. ⌜ Collected (class (now (mask .entry)) c) (cell (now (plane .exit))) (length (now (plane .entry))) (cell (now (list .entry))) r ⌝ }
+    ensures { λ _. ⌜ Kept (class (now (mask .entry)) c) (cell (now (plane .entry))) (cell (now (plane .exit))) ⌝ }
+{
+    let blocks = plane.len() / 64;
+    let mut n = 0;
+    for b in 0..blocks {
+        if among(mask, c, 64 * b, 64) == 0 {
+            continue;
+        }
+        n = spread_run(list, mask, c, 64 * b, 64 * b + 64, plane, n);
+    }
+    spread_run(list, mask, c, 64 * blocks, plane.len(), plane, n)
 }

@@ -1,12 +1,10 @@
 -- A body: the marked part, and then the unmarked. Assumes nothing.
 use mathlib.Core.Path.{_≡_, refl, _∙_}
-use mathlib.Core.Bool.{Bool, true}
 use mathlib.Core.List.{List}
 use Prim.Native.Nat.{ℕ, _+_, _*_, _≤_}
 use native.Mathlib.Omega.{arith}
 use lib.IntN.{ℤ, pos}
 use lib.ListN.{length}
-use lib.Pow.{pow-mono}
 use Rattle.line.specs.Cells.{cell}
 use Rattle.bitplane.specs.Body.{class, planes}
 use Rattle.bitplane.specs.Reader.{received, read, start}
@@ -14,13 +12,9 @@ use Rattle.bitplane.proofs.Classes.{one-class}
 use Rattle.bitplane.proofs.Passes.{reading-eq}
 use Rattle.bitplane.proofs.Past.{bytes-silent}
 use Rattle.bitplane.proofs.Empty.{read-other}
-use Rattle.reader.specs.Reads.{reading, Spare, PlanesRead, BodyRead}
+use Rattle.reader.specs.Reads.{reading, Unread, PlanesRead, BodyRead}
 use Rattle.reader.proofs.Passes.{stopped-near}
 use Rattle.reader.proofs.Planes.{planes-from}
-
--- coefficients that are 0 leave room
-pub spare-zero : {on : ℕ → Bool} {Y : ℕ → ℤ} (top : ℕ) → top ≤ 22 → ((i : ℕ) → on i ≡ true → Y i ≡ pos 0) → Spare on top Y 0
-spare-zero top h z = record { each = λ i g o. rw (z i o) (omega (arith, pow-mono h)) }
 
 -- l₀ is the plane cleared, and l₁ with the marked part read
 module _ (src mask : List ℕ) (top n : ℕ) (l₀ l₁ : List ℤ) {m k : ℕ} (size : length l₀ ≡ n) (zero : (i : ℕ) → cell l₀ i ≡ pos 0)
@@ -32,7 +26,7 @@ module _ (src mask : List ℕ) (top n : ℕ) (l₀ l₁ : List ℤ) {m k : ℕ} 
   pub marked-near : m ≤ 8 * length src + 1
   marked-near = omega (arith, from-start .at, stopped-near (received src) (read (received src) n (planes (class mask 1) top) start .at))
 
-  pub unmarked-zero : (i : ℕ) → class mask 0 i ≡ true → cell l₁ i ≡ pos 0
+  pub unmarked-zero : Unread (class mask 0) (cell l₁)
   unmarked-zero i o = from-start .value i ∙ read-other (received src) n (class mask 1) top start i (one-class mask 0 1 i (λ e. omega arith) o)
 
   pub body-read : {l₂ : List ℤ} {e j : ℕ} → length l₁ ≡ n → PlanesRead (received src) (length l₁) (planes (class mask 0) top) (reading l₁ m) l₂ e j

@@ -2,5 +2,6 @@
 pub mod Passes
 pub mod Blocks
 pub mod Planes
+pub mod Lists
 pub mod Bodies
 pub mod Filling

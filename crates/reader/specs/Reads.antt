@@ -4,6 +4,7 @@
 --   reading l p  == the coefficients of the plane l, and p as the place of the next bit
 --   Ready        == what a reading of class c from place p on needs: a class, a mask of the plane's size, at most 2^24 coefficients, a place the reader can have come to, a body whose places have 64 bits
 --   Spare on t Z i == from i on the coefficients of a class leave room for the planes below t
+--   Unread on Z  == the coefficients of a class are 0
 --   PartReady    == what a reading of plane t of class c needs, from coefficient i and place p on
 --   Reads src x l₀ p l q i == l is l₀ with the first i coefficients of the pass x read, from place p on; q is the place of the next bit, as stopped
 --   Continues src x l q i l′ q′ j == whatever was read before, the coefficients from i to j are read next: l and q become l′ and q′
@@ -17,7 +18,7 @@ use mathlib.Core.Bool.{Bool, true}
 use mathlib.Core.List.{List}
 use Prim.Native.Nat.{ℕ, suc, _+_, _*_, _^_, _<_, _≤_}
 use lib.Dec.{leb}
-use lib.IntN.{ℤ, natAbs}
+use lib.IntN.{ℤ, pos, natAbs}
 use lib.ListN.{length}
 use Rattle.line.specs.Cells.{choose, cell}
 use Rattle.bitplane.specs.Body.{Pass, Order, class}
@@ -38,6 +39,9 @@ pub record Ready (body : List ℕ) (plane : List ℤ) (mask : List ℕ) (c p : �
 
 pub record Spare (on : ℕ → Bool) (t : ℕ) (Z : ℕ → ℤ) (i : ℕ) : Type 0 where
   pub each : (k : ℕ) → i ≤ k → on k ≡ true → natAbs (Z k) + 2 ^ t ≤ 1073741824
+
+abbrev pub Unread : (ℕ → Bool) → (ℕ → ℤ) → Type 0
+Unread on Z = (i : ℕ) → on i ≡ true → Z i ≡ pos 0
 
 pub record PartReady (body : List ℕ) (plane : List ℤ) (mask : List ℕ) (c t i p : ℕ) : Type 0 where
   pub depth : t < 30

@@ -7,7 +7,7 @@ ghost use Rattle.line.specs.Cells.{cell, count};
 ghost use Rattle.bitplane.specs.Body.{class, onePlane, planes};
 ghost use Rattle.bitplane.specs.Reader.{received, badFilling};
 ghost use Rattle.members.specs.Index.{Held, Indexed};
-ghost use Rattle.reader.specs.Reads.{Ready, Spare, PartReady, reading, Continues, PassRead, PlanesRead, BodyRead};
+ghost use Rattle.reader.specs.Reads.{Ready, Spare, Unread, PartReady, reading, Continues, PassRead, PlanesRead, BodyRead};
 
 // Reads plane t of the 16 coefficients from i on, from place p on, where 8 bytes are left. Where the next bit of each member is 0 nothing
 // changes.
@@ -205,7 +205,29 @@ pub fn read_planes(
     Reached { at: q, missing: 0 }
 }
 
-// The same, with no look at the picture for a class that has no member, or where no bit is left.
+// The same, of few coefficients that lie far apart and are 0 so far: the passes go over a list of them, and what is read is then put where
+// they lie.
+fn read_few(
+    body: &[u8],
+    plane: &mut [i32],
+    mask: &[u8],
+    c: u8,
+    members: usize,
+    top: u64,
+    p: usize,
+) -> Reached
+    requires { ⌜ (top ≤ 22) × Ready (now body) (now plane) (now mask) c p × Unread (class (now mask) c) (cell (now plane)) ⌝ }
+    requires { ⌜ (members ≤ 65536) × (members ≡ count (length (now plane)) (class (now mask) c)) ⌝ }
+    ensures { λ r. ⌜ PlanesRead (received (now (body .entry))) (length (now (plane .entry))) (planes (class (now (mask .entry)) c) top) (reading (now (plane .entry)) p) (now (plane .exit)) (r .at) (r .missing) ⌝ }
+{
+    let mut list = [0i32; 65536];
+    let ones = [1u8; 65536];
+    let reached = read_planes(body, &mut list[..members], &ones[..members], 1, top, p);
+    members::spread(&list, mask, c, plane);
+    reached
+}
+
+// The same of a class that has so many members, with no look at the picture where it has none, or where no bit is left.
 fn read_class(
     body: &[u8],
     plane: &mut [i32],
@@ -215,8 +237,7 @@ fn read_class(
     top: u64,
     p: usize,
 ) -> Reached
-    requires { ⌜ (top ≤ 29) × Ready (now body) (now plane) (now mask) c p ⌝ }
-    requires { ⌜ Spare (class (now mask) c) top (cell (now plane)) 0 ⌝ }
+    requires { ⌜ (top ≤ 22) × Ready (now body) (now plane) (now mask) c p × Unread (class (now mask) c) (cell (now plane)) ⌝ }
     requires { ⌜ members ≡ count (length (now mask)) (class (now mask) c) ⌝ }
     ensures { λ r. ⌜ PlanesRead (received (now (body .entry))) (length (now (plane .entry))) (planes (class (now (mask .entry)) c) top) (reading (now (plane .entry)) p) (now (plane .exit)) (r .at) (r .missing) ⌝ }
 {
@@ -226,10 +247,13 @@ fn read_class(
             missing: top,
         };
     }
-    if members > 0 {
-        return read_planes(body, plane, mask, c, top, p);
+    if members == 0 {
+        return Reached { at: p, missing: 0 };
     }
-    Reached { at: p, missing: 0 }
+    if members::few(members, plane.len()) {
+        return read_few(body, plane, mask, c, members, top, p);
+    }
+    read_planes(body, plane, mask, c, top, p)
 }
 
 // Makes every coefficient 0.

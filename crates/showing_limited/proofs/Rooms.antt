@@ -6,10 +6,11 @@ use Prim.Native.Nat.{ℕ, _*_, _<_, _≤_}
 use native.Mathlib.Nat.{mul-le-mul}
 use native.Mathlib.Omega.{arith}
 use lib.Dec.{leb}
-use lib.ListN.{length, take, drop, replicate, length-replicate, take-append-drop}
+use lib.ListN.{length, take, drop, replicate, take-append-drop}
 use lib.Seq.{length-take-le}
 use borrow.Author.Tests.{leb-true, le-leb, lt-leb}
 use Rattle.line.specs.Cells.{choose, listed}
+use Rattle.line.proofs.Lists.{front-length}
 use Rattle.refusal.specs.Numbers.{accepted}
 use Rattle.header.specs.Header.{badHeader}
 use Rattle.header.specs.Fields.{shotOf}
@@ -54,11 +55,8 @@ room-small l n = by-header (badHeader l)
     by-header false = let s = shotOf l in small (s .width) (s .height) n _ _ _ refl refl refl
 
 -- ---- parts of the working memory
-pub front-length : {A : Type 0} (n : ℕ) (o : A) → n ≤ 4096 → n ≡ length (take n (replicate 4096 o))
-front-length n o h = sym (length-take-le n (replicate 4096 o) (rw (length-replicate 4096 o) h))
-
 pub front-same : {A : Type 0} (n : ℕ) (o : A) (held : List ℕ) → n ≤ 4096 → n ≤ length held → length (take n (replicate 4096 o)) ≡ length (take n held)
-front-same n o held p q = sym (front-length n o p) ∙ sym (length-take-le n held q)
+front-same n o held p q = sym (front-length o p) ∙ sym (length-take-le n held q)
 
 -- ---- the samples in front of what the lent buffer held
 pub in-front : (l held : List ℕ) {part : List ℕ} {n : ℕ} → n ≡ roomFor l (length held) → n ≤ length held → part ≡ samplesAfter l (take n held) → part ++ drop n held ≡ shownAfter l held

@@ -1,19 +1,37 @@
 -- What one coefficient gives to a plane, as digits behind a number. Assumes nothing.
-use mathlib.Core.Path.{_≡_, refl}
+use mathlib.Core.Path.{_≡_, refl, _∙_}
+use mathlib.Core.Bool.{Bool, true, false}
 use mathlib.Core.List.{[], _∷_}
 use Prim.Native.Nat.{ℕ, zero, suc, _+_, _*_, _/_, _%_, _^_, _<_, _≤_}
 use native.Mathlib.Omega.{arith}
-use lib.Bits.{bitAnd, and-zero-r, and-mask}
+use lib.Bits.{bitAnd, bitOr, and-zero-r, and-mask, or-add-and, and-le-l, and-le-r}
 use lib.Dec.{eqb}
 use lib.IntN.{ℤ, pos, negsuc, natAbs}
 use lib.ListN.{length}
 use lib.Signed.{ltZ}
+use lib.Pow.{shr-mono}
 use borrow.Author.Tests.{ne-eqb, le-ltb}
 use Rattle.line.specs.Cells.{choose}
 use Rattle.bitplane.specs.Bits.{sign}
 use Rattle.bitplane.specs.Body.{signAfter, code}
 use Rattle.bitplane.proofs.Bytes.{sign-binary}
 use Rattle.writer.specs.Written.{extended, given}
+
+-- ---- two numbers joined bit by bit
+pub or-most : (a b : ℕ) → (a ≤ bitOr a b) × (b ≤ bitOr a b)
+or-most a b = omega (arith, or-add-and a b, and-le-l a b, and-le-r a b)
+
+-- ---- what is no larger than a number whose digits down to plane t are 0
+pub not-begun : {a : ℕ} (t high : ℕ) → high / 2 ^ t ≡ 0 → a ≤ high → a / 2 ^ t ≡ 0
+not-begun t high e h = omega (arith, shr-mono t h)
+
+-- ---- a number that counts if its coefficient is a member
+pub member-least : (a m : ℕ) (b : Bool) → m ≡ choose b 1 0 → a * m ≤ a
+member-least a m true e = rw e (omega arith)
+member-least a m false e = rw e (omega arith)
+
+pub member-all : (a m : ℕ) {b : Bool} → m ≡ choose b 1 0 → b ≡ true → a * m ≡ a
+member-all a m e o = let d : m ≡ 1 = e ∙ rw o refl in rw d (omega arith)
 
 -- ---- tests as numbers
 pub minus : (z : ℤ) → choose (ltZ z (pos 0)) 1 0 ≡ sign z

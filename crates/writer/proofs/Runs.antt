@@ -41,9 +41,9 @@ code-zero : (t : ℕ) (z : ℤ) → natAbs z / 2 ^ t ≡ 0 → code t z ≡ 0 �
 unfolding code signAfter
 code-zero t z e = rw e
 
-zero-digits : (c : Bool) (t : ℕ) (z : ℤ) → natAbs z / 2 ^ t ≡ 0 → (0 ≡ extended 0 (choose c (code t z) [])) × (choose c 1 0 ≡ length (choose c (code t z) []))
+zero-digits : (c : Bool) (t : ℕ) (z : ℤ) → (c ≡ true → natAbs z / 2 ^ t ≡ 0) → (0 ≡ extended 0 (choose c (code t z) [])) × (choose c 1 0 ≡ length (choose c (code t z) []))
 unfolding extended
-zero-digits true t z e = rw (code-zero t z e) (refl, refl)
+zero-digits true t z e = rw (code-zero t z (e refl)) (refl, refl)
 zero-digits false t z e = (refl, refl)
 
 module _ (x : Pass) (Z : ℕ → ℤ) where
@@ -130,15 +130,15 @@ module _ (x : Pass) (Z : ℕ → ℤ) where
   pub run-small : {number count : ℕ} (i n : ℕ) → n ≤ 31 → Digits (run x Z i n) number count → number < 2 ^ 62
   run-small i n h d = omega (arith, d .value, extended-small (run x Z i n) (run-binary i n), pow-mono {i = length (run x Z i n)} {j = 62} (omega (arith, run-many i n)))
 
-  -- ---- none of n coefficients has begun
-  zero-run : (i n : ℕ) → ((k : ℕ) → k < n → natAbs (Z (i + k)) / 2 ^ x .plane ≡ 0) → Digits (run x Z i n) 0 (count n (behind i (x .on)))
+  -- ---- no member among n coefficients has begun
+  zero-run : (i n : ℕ) → ((k : ℕ) → k < n → x .on (i + k) ≡ true → natAbs (Z (i + k)) / 2 ^ x .plane ≡ 0) → Digits (run x Z i n) 0 (count n (behind i (x .on)))
   unfolding run passBits count total extended
   zero-run i zero z = record { value = refl; many = refl }
   zero-run i (suc n) z =
       let g = zero-digits (x .on (i + n)) (x .plane) (Z (i + n)) (z n (omega arith)) in
       digits-more (choose (x .on (i + n)) (code (x .plane) (Z (i + n))) []) (zero-run i n (λ k h. z k (omega arith))) (g .0) (g .1)
 
-  pub run-zero : {m : ℕ} (i n : ℕ) → m ≡ count n (behind i (x .on)) → ((k : ℕ) → k < n → natAbs (Z (i + k)) / 2 ^ x .plane ≡ 0) → Digits (run x Z i n) 0 m
+  pub run-zero : {m : ℕ} (i n : ℕ) → m ≡ count n (behind i (x .on)) → ((k : ℕ) → k < n → x .on (i + k) ≡ true → natAbs (Z (i + k)) / 2 ^ x .plane ≡ 0) → Digits (run x Z i n) 0 m
   run-zero i n e z = rw e (zero-run i n z)
 
 -- ---- what a loop over some coefficients keeps of each; m is 1 for a member

@@ -1,5 +1,6 @@
 // Writes the body of a codestream: bits into bytes, up to 32 at once, and the passes over a plane, in blocks of 16 coefficients.
 ghost use mathlib.Core.Path.{_≡_};
+ghost use mathlib.Core.Bool.{true};
 ghost use Prim.Native.Nat.{ℕ, _+_, _-_, _*_, _/_, _%_, _^_, _<_, _≤_};
 ghost use lib.IntN.{natAbs};
 ghost use lib.ListN.{length};
@@ -106,6 +107,33 @@ fn high(plane: &[i32], i: usize) -> u32
     high
 }
 
+// The same of those of class c alone.
+fn high_members(plane: &[i32], mask: &[u8], c: u8, i: usize) -> u32
+    requires { ⌜ (i + 16 ≤ length (now plane)) × (length (now mask) ≡ length (now plane)) ⌝ }
+    ensures { λ r. ⌜ ((k : ℕ) → k < 16 → class (now (mask .entry)) c (i + k) ≡ true → natAbs (cell (now (plane .entry)) (i + k)) ≤ r) ⌝ }
+{
+    let mut high: u32 = 0;
+    for j in 0..16 {
+        let member = members::member(mask, c, i + j) as u32;
+        high = high | (whole::magnitude(plane[i + j]) as u32 * member);
+    }
+    high
+}
+
+// Whether none of the members of class c among the 16 coefficients from i on, of which there are so many, has begun at plane t.
+fn idle(plane: &[i32], mask: &[u8], c: u8, t: u64, i: usize, members: usize) -> bool
+    requires { ⌜ (t < 32) × (i + 16 ≤ length (now plane)) × (length (now mask) ≡ length (now plane)) ⌝ }
+    ensures { λ r. ⌜ (r ≡ true → (k : ℕ) → k < 16 → class (now (mask .entry)) c (i + k) ≡ true → natAbs (cell (now (plane .entry)) (i + k)) / 2 ^ t ≡ 0) ⌝ }
+{
+    if high(plane, i) as u64 >> t == 0 {
+        return true;
+    }
+    if members == 16 {
+        return false;
+    }
+    high_members(plane, mask, c, i) as u64 >> t == 0
+}
+
 // The digits that a block gives, as a number, and how many they are.
 struct Gathered {
     number: u64,
@@ -154,7 +182,7 @@ fn gather(plane: &[i32], mask: &[u8], c: u8, t: u64, i: usize) -> Gathered
     }
 }
 
-// Writes what the 16 coefficients from i on give to plane t. Where none of them has begun these are zeros, one for each member.
+// Writes what the 16 coefficients from i on give to plane t. Where no member has begun these are zeros, one for each.
 fn write_block(
     out: &mut [u8],
     plane: &[i32],
@@ -172,7 +200,7 @@ fn write_block(
     if members == 0 {
         return p;
     }
-    if high(plane, i) as u64 >> t == 0 {
+    if idle(plane, mask, c, t, i, members) {
         put(out, p, 0, members as u64);
         return p + members;
     }
@@ -315,6 +343,18 @@ pub fn write_planes(out: &mut [u8], plane: &[i32], mask: &[u8], c: u8, top: u64,
     q
 }
 
+// The same, of few coefficients that lie far apart: they are collected once, and the passes go over their list.
+fn write_few(out: &mut [u8], plane: &[i32], mask: &[u8], c: u8, top: u64, p: usize) -> usize
+    requires { ⌜ (top ≤ 32) × PassReady (now mask) (now plane) c × (count (length (now plane)) (class (now mask) c) ≤ 65536) ⌝ }
+    requires { ⌜ Room (part (now mask) top (now plane) c) p (now out) ⌝ }
+    ensures { λ r. ⌜ Sends (part (now (mask .entry)) top (now (plane .entry)) c) p (now (out .entry)) (now (out .exit)) r ⌝ }
+{
+    let mut list = [0i32; 65536];
+    let ones = [1u8; 65536];
+    let n = members::collect(plane, mask, c, &mut list);
+    write_planes(out, &list[..n], &ones[..n], 1, top, p)
+}
+
 // Writes class c, which has so many members, from place p on: no pass over the plane where it has none.
 fn write_class(
     out: &mut [u8],
@@ -332,6 +372,9 @@ fn write_class(
 {
     if members == 0 {
         return p;
+    }
+    if members::few(members, plane.len()) {
+        return write_few(out, plane, mask, c, top, p);
     }
     write_planes(out, plane, mask, c, top, p)
 }

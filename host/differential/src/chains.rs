@@ -6,7 +6,7 @@ use crate::group::Group;
 use crate::guarded::held;
 use crate::levels;
 use crate::random::Random;
-use crate::shots::{self, Shape};
+use crate::shots::{self, mend, Shape};
 
 /// A picture with its region and the stream written from it.
 struct Chain {
@@ -194,23 +194,47 @@ pub fn some_lengths(group: &mut Group, random: &mut Random) {
 }
 
 fn a_few_cuts(group: &mut Group, random: &mut Random, shape: Shape) {
-    let Some(chain) = begin(group, random, shape) else {
-        return;
-    };
+    if let Some(chain) = begin(group, random, shape) {
+        cut_at_a_few(group, random, &chain);
+    }
+}
+
+fn cut_at_a_few(group: &mut Group, random: &mut Random, chain: &Chain) {
     let total = chain.stream.len();
     for c in [
         chain.region_mark,
         random.within(chain.region_mark, total),
         total,
     ] {
-        cut_and_show(group, &chain, c);
+        cut_and_show(group, chain, c);
     }
     let q = random.within(0, 12);
-    truncate_and_show(group, &chain, q);
+    truncate_and_show(group, chain, q);
 }
 
 /// Large pictures for every kernel.
 pub fn large(group: &mut Group, random: &mut Random) {
     let shape = shots::large_shape(random, group.case as usize);
     a_few_cuts(group, random, shape);
+}
+
+/// Large pictures in which few coefficients are marked, or all but few; also streams
+/// that end in their marked part.
+pub fn few(group: &mut Group, random: &mut Random) {
+    let shape = shots::few_shape(random, group.case as usize);
+    let front = 14 + 2 * shape.numbers.len();
+    let Some(chain) = begin(group, random, shape) else {
+        return;
+    };
+    cut_at_a_few(group, random, &chain);
+    for c in [front, random.within(front, chain.region_mark)] {
+        let mut stream = chain.stream[..c].to_vec();
+        mend(&mut stream);
+        group.compare(Call::Read {
+            stream,
+            plane: held(chain.shape.len()),
+            mask: held(chain.shape.len()),
+            results: held(139),
+        });
+    }
 }

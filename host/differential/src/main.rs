@@ -31,7 +31,7 @@ use random::Random;
 type Entry = (&'static str, u64, fn(&mut Group, &mut Random));
 
 #[rustfmt::skip]
-const GROUPS: [Entry; 89] = [
+const GROUPS: [Entry; 90] = [
     ("region, accepted", 4_000, arguments::region::accepted),
     ("region, one wrong argument", 9_000, arguments::region::one_wrong),
     ("region, several wrong arguments", 20_000, arguments::region::several_wrong),
@@ -121,6 +121,7 @@ const GROUPS: [Entry; 89] = [
     ("chains, every length", 900, chains::every_length),
     ("chains, some lengths", 300, chains::some_lengths),
     ("chains, large pictures", 32, chains::large),
+    ("chains, large pictures with few marks, or all but few", 24, chains::few),
 ];
 
 /// The numbers that each entry returns; each must come up in some case.

@@ -146,6 +146,34 @@ pub fn large_shape(random: &mut Random, case: usize) -> Shape {
     }
 }
 
+/// More than 2^20 samples, even and odd sides, every kernel, and a region that marks
+/// few coefficients, or all but few: some small rectangles, a thin one over the
+/// whole height, all but a thin one. There are 24.
+pub fn few_shape(random: &mut Random, case: usize) -> Shape {
+    let (w, h) = [(1366, 768), (257, 4095)][case / 12];
+    let numbers = match case / 4 % 3 {
+        0 => {
+            let count = random.pick(&[1, 5, 32]);
+            let small = |random: &mut Random| {
+                let (x, y) = (random.below(w - 12), random.below(h - 12));
+                let (across, down) = (random.within(1, 12), random.within(1, 12));
+                [x, y, across, down].map(|number| number as u32)
+            };
+            (0..count).flat_map(|_| small(random)).collect()
+        }
+        1 => vec![random.below(w - 4) as u32, 0, 4, h as u32],
+        _ => vec![0, 0, (w - random.within(1, 20)) as u32, h as u32],
+    };
+    Shape {
+        kernel: case % 4,
+        levels: 5,
+        depth: random.pick(&[8, 10]),
+        w,
+        h,
+        numbers,
+    }
+}
+
 /// At most 64 samples, for cases that try every place of a stream.
 pub fn tiny_shape(random: &mut Random) -> Shape {
     let levels = random.pick(&[1, 1, 1, 2, 2, 3, 5]);

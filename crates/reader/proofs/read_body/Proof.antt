@@ -7,7 +7,7 @@ use borrow.Author.Needs.{needs}
 use Rattle.line.specs.Cells.{count}
 use Rattle.bitplane.specs.Body.{class}
 use Rattle.bitplane.proofs.Empty.{classes-count}
-use Rattle.reader.proofs.Bodies.{spare-zero, marked-near, unmarked-zero, body-read}
+use Rattle.reader.proofs.Bodies.{marked-near, unmarked-zero, body-read}
 use Rattle.reader.proofs.read_body.Statement.{statement}
 use Rattle.reader.proofs.read_body.Tie as tie
 
@@ -24,11 +24,15 @@ read-body-spec =
     tie.close (tie.spec
     (λ c κs. search needs)
     (λ c κs. let s = c .before .before .before .before .before .before in let k = c .before .before .clear in
-    ((omega (arith, s .pre .0 .0), record { class = omega arith; sizes = s .pre .0 .1 ∙ sym (k .kept .0); few = omega (arith, s .pre .0 .2, k .kept .0); place = omega arith; small = s .pre .0 .3 }), (spare-zero _ (s .pre .0 .0) (λ i o. k .ensures i), s .pre .1 .1)))
+    ((s .pre .0 .0, record { class = omega arith; sizes = s .pre .0 .1 ∙ sym (k .kept .0); few = omega (arith, s .pre .0 .2, k .kept .0); place = omega arith; small = s .pre .0 .3 }, λ i o. k .ensures i), s .pre .1 .1))
     (λ c. let s = c .before .before .before .before .before .before .before .before in omega (arith, both s, s .pre .0 .1, s .pre .1 .1, size (c .before)))
     (λ c κs. let s = c .before .before .before .before .before .before .before .before .before in let d = c .before .before in let k = c .before .before .before .before .before .clear in (
-      (omega (arith, s .pre .0 .0), record { class = omega arith; sizes = s .pre .0 .1 ∙ sym (size d); few = omega (arith, s .pre .0 .2, size d); place = omega (arith, marked-near _ _ _ _ (k .last .0) _ (k .kept .0) (k .ensures) (d .read-class .ensures)); small = s .pre .0 .3 }),
-      (spare-zero _ (s .pre .0 .0) (unmarked-zero _ _ _ _ (k .last .0) _ (k .kept .0) (k .ensures) (d .read-class .ensures)), omega (arith, both s, s .pre .0 .1, s .pre .1 .1, size d)),
+      (
+        s .pre .0 .0,
+        record { class = omega arith; sizes = s .pre .0 .1 ∙ sym (size d); few = omega (arith, s .pre .0 .2, size d); place = omega (arith, marked-near _ _ _ _ (k .last .0) _ (k .kept .0) (k .ensures) (d .read-class .ensures)); small = s .pre .0 .3 },
+        unmarked-zero _ _ _ _ (k .last .0) _ (k .kept .0) (k .ensures) (d .read-class .ensures),
+      ),
+      omega (arith, both s, s .pre .0 .1, s .pre .1 .1, size d),
     ))
     (λ c. search needs)
     (λ c. let d = c .before .before .before .before in let k = c .before .before .before .before .before .before .before .clear in body-read _ _ _ _ (k .last .0) _ (k .kept .0) (k .ensures) (d .read-class .ensures) (size d) (c .before .read-class2 .ensures)))

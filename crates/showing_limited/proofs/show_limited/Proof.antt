@@ -5,12 +5,13 @@ use lib.IntN.{pos}
 use lib.ListN.{length, take, replicate}
 use lib.Seq.{length-take-le}
 use borrow.Author.Needs.{needs}
+use Rattle.line.proofs.Lists.{front-length}
 use Rattle.refusal.specs.Numbers.{first}
 use Rattle.codestream.specs.Reading.{readTests, numbersUnder, shotUnder, readNumbers, shotRead}
 use Rattle.header_reader.specs.Answers.{headerFor}
 use Rattle.exactness.specs.Shown.{streamTests}
 use Rattle.showing_limited.specs.Showing.{roomFor}
-use Rattle.showing_limited.proofs.Rooms.{room-small, front-length, front-same, in-front}
+use Rattle.showing_limited.proofs.Rooms.{room-small, front-same, in-front}
 use Rattle.showing_limited.proofs.Shows.{tests-read, samples-read}
 use Rattle.showing_limited.proofs.show_limited.Statement.{statement}
 use Rattle.showing_limited.proofs.show_limited.Tie as tie
@@ -26,11 +27,11 @@ show-limited-spec =
     tie.close (tie.spec
     (λ c κs. search needs)
     (λ c. small c .0)
-    (λ c. front-length (c .before .room .result) (pos 0) (small (c .before) .0))
+    (λ c. front-length {k = 4096} (pos 0) (small (c .before) .0))
     (λ c. small (c .before) .0)
-    (λ c. front-length (c .before .before .room .result) 0 (small (c .before .before) .0))
+    (λ c. front-length {k = 4096} 0 (small (c .before .before) .0))
     (λ c. small (c .before .before) .0)
-    (λ c. front-length (c .before .before .before .room .result) (pos 0) (small (c .before .before .before) .0))
+    (λ c. front-length {k = 4096} (pos 0) (small (c .before .before .before) .0))
     (λ c. small (c .before .before .before) .1)
     (λ c. sym (length-take-le (c .before .before .before .before .room .result) (c .before .before .before .before .before .before .before .args .shown .now) (small (c .before .before .before .before) .1)))
     (λ c κs. search needs)

@@ -2,12 +2,12 @@
 use mathlib.Core.Path.{_≡_, _∙_}
 use Prim.Native.Nat.{ℕ, _+_, _-_, _<_, _≤_}
 use native.Mathlib.Omega.{arith}
-use lib.Bits.{bitOr, or-add-and, and-le-l, and-le-r}
 use lib.IntN.{natAbs}
 use borrow.Author.Count.{below-more}
 use borrow.Author.Needs.{sfits-of}
 use Rattle.whole.proofs.Linear.{natAbs-fits, reading}
 use Rattle.line.specs.Cells.{cell}
+use Rattle.writer.proofs.Codes.{or-most}
 use Rattle.writer.proofs.high.Statement.{statement}
 use Rattle.writer.proofs.high.Tie as tie
 
@@ -16,9 +16,6 @@ Inv-loop plane i high₀ j₀ high j = (j ≤ 16) × ((k : ℕ) → k < j → na
 
 abbrev μ-loop : tie.MeasureT-loop
 μ-loop plane i high₀ j₀ high j = 16 - j
-
-or-most : (a b : ℕ) → (a ≤ bitOr a b) × (b ≤ bitOr a b)
-or-most a b = omega (arith, or-add-and a b, and-le-l a b, and-le-r a b)
 
 sized : (c : tie.After-magnitude Inv-loop μ-loop) → let s = c .before .before .before .before in c .magnitude .result ≡ natAbs (cell (s .args .plane .now) (s .args .i + c .before .before .before .loop .j))
 sized c = c .magnitude .ensures ∙ search reading

@@ -3,7 +3,6 @@ use mathlib.Core.Path.{sym, _∙_}
 use mathlib.Core.List.{List}
 use Prim.Native.Nat.{ℕ}
 use native.Mathlib.Omega.{arith}
-use lib.Pow.{shr-mono}
 use borrow.Author.Needs.{needs}
 use Rattle.bitplane.proofs.Empty.{count-none}
 use Rattle.writer.specs.Written.{Digits, share}
@@ -20,7 +19,7 @@ bits s = share (s .args .mask .now) (s .args .t) (s .args .plane .now) (s .args 
 
 zeros : (c : tie.Then2) → Digits (bits (start (c .before .before .before))) 0 (c .before .before .before .among .result)
 zeros c = let a = c .before .before .before in
-    run-zero _ _ _ 16 (a .among .ensures) (λ k h. omega (arith, shr-mono (start a .args .t) (c .before .high .ensures k h), c .if2 .taken))
+    run-zero _ _ _ 16 (a .among .ensures) (c .before .idle .ensures (c .if2 .taken))
 
 pub write-block-spec : {M : Type 1} → statement M
 write-block-spec =
@@ -28,8 +27,6 @@ write-block-spec =
     (λ c κs. search needs)
     (λ c. let a = c .before in sends-off _ _ _ 16 _ (count-none 16 _ (sym (a .among .ensures) ∙ c .if1 .taken)))
     (λ c κs. search needs)
-    (λ c. search needs)
-    (λ c. search needs)
     (λ c κs. let e = c .before .before .before in run-fits _ _ _ (e .before .among .ensures) (e .if1 .left) (zeros (c .before)) (start (e .before) .pre .1))
     (λ c. let z = c .before .before .before .before in omega (arith, zeros z .many, start (z .before .before .before) .pre .1))
     (λ c. search needs)

@@ -13,14 +13,14 @@ fn help_and_version_on_every_command() {
     let here = Folder::new();
     for words in ["-V", "--version"] {
         let answer = here.run(words);
-        assert_eq!((answer.status, answer.said().as_str()), (0, "dhiirqobaal 1.3.0\n"));
+        assert_eq!((answer.status, answer.said().as_str()), (0, "dhiirqobaal 1.3.1\n"));
     }
     for command in COMMANDS {
         for words in ["-h", "--help"] {
             here.ends(&format!("{command} {words}"), 0, &format!("dhiirqobaal {command}"));
         }
         here.ends(&format!("help {command}"), 0, &format!("dhiirqobaal {command}"));
-        assert_eq!(here.run(&format!("{command} --version")).said(), "dhiirqobaal 1.3.0\n");
+        assert_eq!(here.run(&format!("{command} --version")).said(), "dhiirqobaal 1.3.1\n");
         here.ends("help", 0, &format!("\n  {command}"));
     }
     for line in ["help --help", "help -h", "help help", "help --version"] {
