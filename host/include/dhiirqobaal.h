@@ -183,9 +183,10 @@
  *
  * Its working memory is on the stack. Each function's description says how many bytes below the caller's stack pointer
  * a call needs at most (DHIIRQOBAAL_STACK_READ and so on), with memcpy and memset of the GNU C library; host/stack
- * measures them on pictures of 4,096 by 4,096, 4,095 by 257 and 257 by 4,095 with five levels, and calls each function on a thread
- * that has little more. Every page of a large frame is touched in turn, so that one guard page below the stack is
- * enough. A program that looks up memcpy and memset at their first call needs more in that call: link it with -z now.
+ * measures them on pictures of 4,096 by 4,096, 4,095 by 257 and 257 by 4,095 with five levels, and calls each function
+ * on a thread that has little more. Every page of a large frame is touched in turn, so that one guard page below the
+ * stack is enough. A program that looks up memcpy and memset at their first call needs more in that call: link it with
+ * -z now.
  *
  * In a kernel or a hypervisor, besides memcpy and memset:
  *   - SSE2 registers: the functions use the xmm registers without saving them (no x87, MMX or AVX register, and no

@@ -83,8 +83,8 @@ pub fn find(mask: &[u8], c: u8, index: &mut [u64])
     }
 }
 
-// Whether class c, which has so many members in a plane of n coefficients, is collected for its passes: it fits into a list, and lies so far
-// apart that a pass over the plane would mostly wait for memory.
+// Whether a class that has so many members in a plane of n coefficients is collected for its passes: it fits into a list, and the plane is so
+// large that a pass over it may wait for memory at each of them.
 pub fn few(members: usize, n: usize) -> bool
     ensures { λ r. ⌜ (r ≡ true → members ≤ 65536) ⌝ }
 {

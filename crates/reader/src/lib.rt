@@ -205,7 +205,7 @@ pub fn read_planes(
     Reached { at: q, missing: 0 }
 }
 
-// The same, of few coefficients that lie far apart and are 0 so far: the passes go over a list of them, and what is read is then put where
+// The same, of few coefficients of a large plane, which are 0 so far: the passes go over a list of them, and what is read is then put where
 // they lie.
 fn read_few(
     body: &[u8],

@@ -343,7 +343,7 @@ pub fn write_planes(out: &mut [u8], plane: &[i32], mask: &[u8], c: u8, top: u64,
     q
 }
 
-// The same, of few coefficients that lie far apart: they are collected once, and the passes go over their list.
+// The same, of few coefficients of a large plane: they are collected once, and the passes go over their list.
 fn write_few(out: &mut [u8], plane: &[i32], mask: &[u8], c: u8, top: u64, p: usize) -> usize
     requires { ⌜ (top ≤ 32) × PassReady (now mask) (now plane) c × (count (length (now plane)) (class (now mask) c) ≤ 65536) ⌝ }
     requires { ⌜ Room (part (now mask) top (now plane) c) p (now out) ⌝ }

@@ -14,21 +14,29 @@ use benchmark::timing::{best, Rounds};
 const LIMIT: f64 = 1.5;
 
 /// About a thousandth of the samples each; positions and sides are those of a
-/// picture of 4,096 by 4,096, and in the same relation in any other.
-fn little(size: Size) -> [(&'static str, Vec<u32>); 4] {
+/// picture of 4,096 by 4,096, and in the same relation in any other. The mask of the
+/// lines marks more coefficients than the library collects.
+fn little(size: Size) -> [(&'static str, Vec<u32>); 5] {
     let across = |x: usize| (size.w * x / 4096) as u32;
     let down = |y: usize| (size.h * y / 4096) as u32;
     let rectangle = |x, y, w, h| [across(x), down(y), across(w).max(1), down(h).max(1)];
-    let square = |i: usize| {
+    let spread = |i: usize, w, h| {
         let (column, row) = (i % 8, i / 8);
         let x = 512 * column + 233 + 13 * row;
-        rectangle(x, 1024 * row + 479 + 29 * column, 23, 23)
+        rectangle(x, 1024 * row + 249 + 29 * column, w, h)
     };
     [
         ("none", Vec::new()),
         ("130 by 129", rectangle(1237, 2051, 130, 129).to_vec()),
         ("4 by 4096", rectangle(2741, 0, 4, 4096).to_vec()),
-        ("32 of 23 by 23", (0..32).flat_map(square).collect()),
+        (
+            "32 of 23 by 23",
+            (0..32).flat_map(|i| spread(i, 23, 23)).collect(),
+        ),
+        (
+            "32 of 1 by 512",
+            (0..32).flat_map(|i| spread(i, 1, 512)).collect(),
+        ),
     ]
 }
 
@@ -223,8 +231,9 @@ pub fn print(size: Size, samples: &[u16]) {
     println!("## Little region\n");
     println!(
         "Regions of about a thousandth of a {size} picture, kernel 2, five levels: a rectangle, a thin \
-         one over the whole height, and 32 squares spread over the picture. The mask marks more \
-         coefficients than the region has samples, since the lows around it are needed too. What a call \
+         one over the whole height, 32 squares spread over the picture, and 32 lines spread likewise. \
+         The mask marks more coefficients than the region has samples, since the lows around it are needed \
+         too; that of the lines marks 188,000, more than the 65,536 that are collected. What a call \
          does before the body, such as the drawing of the mask, is set aside here: the column 'cut before \
          its body' has it, and the section Cut streams beside the same work by other calls.\n"
     );
