@@ -5,6 +5,8 @@
    Every number is a signed 32-bit integer in the machine's own byte order. There is no level shift.
    With an argument, a number of rounds, the transform and its undoing are also timed, and the best times, in
    milliseconds, go to standard error.
+   With a second one, a level, undoing alone is timed and ends with the picture at that level: the finest levels, as
+   many as the second argument says, stay as they are. This picture, row by row, is then the output.
 
    `opj_dwt_encode` and `opj_dwt_decode` are functions of OpenJPEG's archive that its public header leaves out. The
    records below restate what they are given, as version 2.5.0 lays it out (Debian 12, package libopenjp2-7-dev).
@@ -99,6 +101,10 @@ static void transform(struct coder *coder, struct component *component) {
     if (!opj_dwt_encode(coder, component)) fail("OpenJPEG did not transform the picture");
 }
 
+static void undo(struct coder *coder, struct component *component, uint32_t resolutions) {
+    if (!opj_dwt_decode(coder, component, resolutions)) fail("OpenJPEG did not undo the transform");
+}
+
 /* The best of some rounds there and back. */
 static void time_rounds(struct coder *coder, struct component *component, long rounds) {
     double forward = 1e30, backward = 1e30;
@@ -106,12 +112,40 @@ static void time_rounds(struct coder *coder, struct component *component, long r
         double begun = milliseconds();
         transform(coder, component);
         double turned = milliseconds();
-        if (!opj_dwt_decode(coder, component, component->resolution_count)) fail("OpenJPEG did not undo the transform");
+        undo(coder, component, component->resolution_count);
         double ended = milliseconds();
         if (turned - begun < forward) forward = turned - begun;
         if (ended - turned < backward) backward = ended - turned;
     }
     fprintf(stderr, "%.6f %.6f\n", forward, backward);
+}
+
+/* The best of some rounds back, as far as these resolutions, and what the last of them leaves. Each begins with a copy
+   of all coefficients, so that those it needs are not left in a cache by the work before. */
+static void time_level(struct coder *coder, struct component *component, uint32_t resolutions, long rounds) {
+    size_t size = component->sample_count * sizeof *component->data;
+    int32_t *coefficients = numbers(component->sample_count);
+    memcpy(coefficients, component->data, size);
+    double best = 1e30;
+    for (long i = 0; i < rounds; i++) {
+        memcpy(component->data, coefficients, size);
+        double begun = milliseconds();
+        undo(coder, component, resolutions);
+        double ended = milliseconds();
+        if (ended - begun < best) best = ended - begun;
+    }
+    free(coefficients);
+    fprintf(stderr, "%.6f\n", best);
+}
+
+/* The upper left area that has the size of a resolution. */
+static void print_area(const struct component *component, const struct resolution *resolution) {
+    for (int32_t y = 0; y < resolution->y1; y++) {
+        const int32_t *row = component->data + (size_t)y * component->x1;
+        size_t length = resolution->x1;
+        if (fwrite(row, 4, length, stdout) != length) fail("the output could not be written");
+    }
+    if (fflush(stdout)) fail("the output could not be written");
 }
 
 int main(int argc, char **argv) {
@@ -137,8 +171,11 @@ int main(int argc, char **argv) {
     coder->thread_pool = opj_thread_pool_create(0);
     coder->whole_tile = 1;
     if (!coder->thread_pool) fail("OpenJPEG made no thread pool");
-    if (argc > 1) time_rounds(coder, &component, atol(argv[1]));
+    if (argc == 2) time_rounds(coder, &component, atol(argv[1]));
     transform(coder, &component);
-    if (fwrite(data, 4, count, stdout) != count || fflush(stdout)) fail("the output could not be written");
+    long level = argc > 2 ? atol(argv[2]) : 0;
+    if (level < 0 || level > levels) fail("a level is 0 to the number of levels");
+    if (argc > 2) time_level(coder, &component, (uint32_t)(levels - level) + 1, atol(argv[1]));
+    print_area(&component, &component.resolutions[levels - level]);
     return 0;
 }

@@ -3,6 +3,7 @@ use mathlib.Core.Path.{_≡_, sym, ap, subst}
 use mathlib.Core.Bool.{true}
 use Prim.Native.Nat.{_≤_}
 use Rattle.refusal.specs.Numbers.{accepted}
+use Rattle.wavelet.specs.Wavelet.{coefficientsOf}
 use Rattle.samples.specs.Samples.{inRange}
 use Rattle.header.specs.Fields.{Shot}
 use Rattle.header.specs.Arrival.{cutTo}
@@ -14,7 +15,7 @@ use Rattle.codestream.proofs.Cuts.{Cuttable}
 use Rattle.codestream.proofs.Arrivals.{arrived-cut, arrived-numbers}
 use Rattle.exactness.specs.Shown.{levelArea, streamTests}
 use Rattle.exactness.specs.Demands.{Demand2, Demand3, Arrived, SmallPicture, LampBrightness}
-use Rattle.exactness.proofs.Levels.{number-full, tests-full, level-few, some-width, number-lowest, numbers-agree}
+use Rattle.exactness.proofs.Levels.{number-full, tests-full, level-few, some-width, number-lowest, numbers-agree, number-within}
 use Rattle.exactness.proofs.Streams.{stream-taken}
 use Rattle.exactness.proofs.Cuts.{every-cut, cutter-exact, arrived-is, level-cut, level-shown}
 use Rattle.exactness.proofs.Brightness.{bright-cut}
@@ -51,6 +52,8 @@ pub small-picture : SmallPicture
 small-picture = record {
   full = λ k J D W H plane n s. (tests-full k J D W H plane n s, λ i. let e = number-full k J W H plane i in (e, ap (inRange D) e));
   lowest = λ k J D W H plane n s ok i h. let e = number-lowest k J W H plane i (some-width k J J D W H plane n s ok) h in (e, ap (inRange D) e);
+  within = λ k J r D W H plane plane′ n s ok same i h.
+      let e = number-within k J r W H (coefficientsOf W plane′) plane (some-width k J r D W H plane n s ok) same i h in (e, ap (inRange D) e);
   alike = λ k J r D W H B plane plane′ n s ok ok′ a i h t.
       let e = numbers-agree k J r W H B plane plane′ (some-width k J r D W H plane n s ok) (level-few k J r D W H plane n s ok) a i h t in (e, ap (inRange D) e);
   blocks = block-marked;

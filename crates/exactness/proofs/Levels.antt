@@ -14,7 +14,8 @@ use Rattle.line.proofs.Lists.{listed-cell}
 use Rattle.grid.specs.Picture.{Picture, side, walk, AgreeOn}
 use Rattle.grid.proofs.Passes.{cell}
 use Rattle.grid.proofs.Levels.{side-le, side-some}
-use Rattle.plane.specs.Plane.{transformed, maskOf}
+use Rattle.grid.proofs.Alike.{Alike}
+use Rattle.plane.specs.Plane.{transformed, maskOf, levelPicture}
 use Rattle.plane.proofs.Inverse.{level-transform}
 use Rattle.plane.proofs.Levels.{level-agrees, level-alike, stored-level}
 use Rattle.refusal.specs.Numbers.{test, first, accepted}
@@ -36,13 +37,19 @@ module _ (W H : ℕ) where
   pub place-in : (y x : ℕ) → y < H → x < W → y * W + x < W * H
   place-in y x p q = omega (arith, digits-lt p q, mul-comm W H)
 
--- a place of the area is one of the picture
+-- a place of the area, which is one of the picture
 module _ (r W H i : ℕ) (some : 0 < W) (h : i < side r W * side r H) where
+  pub area-row : i / side r W < side r H
+  area-row = row-in (side r W) (side r H) i (side-some r W some) h
+
+  pub area-column : i % side r W < side r W
+  area-column = mod-lt i (side-some r W some)
+
   pub level-row : i / side r W < H
-  level-row = omega (arith, row-in (side r W) (side r H) i (side-some r W some) h, side-le r H)
+  level-row = omega (arith, area-row, side-le r H)
 
   pub level-column : i % side r W < W
-  level-column = omega (arith, mod-lt i (side-some r W some), side-le r W)
+  level-column = omega (arith, area-column, side-le r W)
 
 -- ---- level 0
 module _ (k J W H : ℕ) (plane : List ℤ) (i : ℕ) where
@@ -114,6 +121,11 @@ pub numbers-agree : (k J r W H : ℕ) (B : Picture Bool) (p p′ : List ℤ) →
 numbers-agree k J r W H B p p′ some few a i h t =
     level-agrees (theKernel k) J W H B (coefficientsOf W p) (coefficientsOf W p′) a r few (i / side r W) (i % side r W) (level-row r W H i some h) (level-column r W H i some h) t
 
+-- ---- planes that hold the same in the area
+module _ (k J r W H : ℕ) (P : Picture ℤ) (plane : List ℤ) (some : 0 < W) (same : Alike (side r W) (side r H) (coefficientsOf W plane) P) (i : ℕ) (h : i < side r W * side r H) where
+  pub number-within : levelNumber k J r W H plane i ≡ levelPicture (theKernel k) J r W H P (i / side r W) (i % side r W)
+  number-within = level-alike (theKernel k) J r W H (coefficientsOf W plane) P same (i / side r W) (i % side r W) (area-row r W H i some h) (area-column r W H i some h)
+
 -- ---- the plane of a picture
 pub number-own : (k J r W H : ℕ) (samples : List ℕ) → 0 < W → r ≤ J → (i : ℕ) → i < side r W * side r H
     → levelNumber k J r W H (planeFor k J W H samples) i ≡ ownNumber k r W H samples i
@@ -121,7 +133,8 @@ number-own k J r W H samples some few i h =
     let K = theKernel k in
     let plane = planeFor k J W H samples in
     let P = transformed K J W H (samplesOf W samples) in
-    let same : (y x : ℕ) → y < H → x < W → coefficientsOf W plane y x ≡ P y x
+    let in-picture : (y x : ℕ) → y < H → x < W → coefficientsOf W plane y x ≡ P y x
     = λ y x a b. cell (pos 0) W plane y x b ∙ listed-cell (W * H) (coefficient k J W H samples) (pos 0) (y * W + x) (place-in W H y x a b) ∙ (rw (digits-div y b, digits-mod y b)) in
-    level-alike K J W H (coefficientsOf W plane) P same r (i / side r W) (i % side r W) (level-row r W H i some h) (level-column r W H i some h)
+    let same : Alike (side r W) (side r H) (coefficientsOf W plane) P = λ y x a b. in-picture y x (omega (arith, side-le r H)) (omega (arith, side-le r W)) in
+    number-within k J r W H P plane some same i h
     ∙ ap (λ (Q : Picture ℤ). Q (i / side r W) (i % side r W)) (level-transform K J r W H (samplesOf W samples) few)

@@ -38,6 +38,8 @@
 --   SmallPicture == the picture at level r, for every r from 0 to J:
 --     full     r = 0 is accepted where undoing and showing are, and gives what they give
 --     lowest   r = J gives the lowest area as it is stored
+--     within   what is shown comes from the coefficients in level r's area alone: a plane that holds the same there, whatever it holds elsewhere, has the same
+--              picture at level r
 --     alike    two accepted planes of one size, kernel, level count and depth that agree on the mask show the area alike wherever level r's mask marks
 --     blocks   level r's mask marks each place whose block of 2^r by 2^r samples holds a sample of the region
 --     taken    a stream that the reader accepts is shown at level r in buffers as long as the area
@@ -133,6 +135,10 @@ pub record SmallPicture : Type 0 where
   pub lowest : (k J D W H : ℕ) (plane : List ℤ) (n s : ℕ) → accepted (levelTests k J J D W H plane n s) ≡ true
       → (i : ℕ) → i < side J W * side J H → let stored = getD plane (i / side J W * W + i % side J W) (pos 0) in
       (levelNumber k J J W H plane i ≡ stored) × (levelSample k J J D W H plane i ≡ inRange D stored)
+  pub within : (k J r D W H : ℕ) (plane plane′ : List ℤ) (n s : ℕ) → accepted (levelTests k J r D W H plane n s) ≡ true
+      → ((y x : ℕ) → y < side r H → x < side r W → coefficientsOf W plane y x ≡ coefficientsOf W plane′ y x)
+      → (i : ℕ) → i < side r W * side r H
+      → (levelNumber k J r W H plane i ≡ levelNumber k J r W H plane′ i) × (levelSample k J r D W H plane i ≡ levelSample k J r D W H plane′ i)
   pub alike : (k J r D W H : ℕ) (B : Picture Bool) (plane plane′ : List ℤ) (n s : ℕ)
       → accepted (levelTests k J r D W H plane n s) ≡ true → accepted (levelTests k J r D W H plane′ n s) ≡ true
       → AgreeOn W H (maskOf (theKernel k) J W H B) (coefficientsOf W plane) (coefficientsOf W plane′)

@@ -14,6 +14,7 @@ use Rattle.line.proofs.Marks.{half-marked}
 use Rattle.line.proofs.Covered.{covered}
 use Rattle.grid.specs.Picture.{Picture, walk, side, AgreeOn}
 use Rattle.grid.proofs.Levels.{walk-add, back-none, side-le, walk-block}
+use Rattle.grid.proofs.Alike.{Alike}
 use Rattle.grid.proofs.Covered.{walk-covered}
 use Rattle.plane.specs.Plane.{undone, maskOf, levelMask, levelPicture}
 use Rattle.plane.specs.Counts.{same, places, differs}
@@ -57,11 +58,11 @@ module _ (k : Kernel) (J W H : ℕ) (B : Picture Bool) (P P′ : Picture ℤ) (a
 pub block-marked : (k : Kernel) (j W H : ℕ) (B : Picture Bool) (y x : ℕ) → y < H → x < W → B y x ≡ true → levelMask k j W H B (y / 2 ^ j) (x / 2 ^ j) ≡ true
 block-marked k j W H B y x p q t = walk-block (maskLine k) (half-marked k) j W H B y x p q t
 
--- planes that agree everywhere
-pub level-alike : (k : Kernel) (J W H : ℕ) (P P′ : Picture ℤ) → ((y x : ℕ) → y < H → x < W → P y x ≡ P′ y x) → (j y x : ℕ) → y < H → x < W
-    → levelPicture k J j W H P y x ≡ levelPicture k J j W H P′ y x
-level-alike k J W H P P′ a j y x p q =
-    walk-covered (maskLine k) (back k) (covered k) (J - j) W H (side j W) (side j H) (λ y x. true) P P′ (side-le j W) (side-le j H) (λ y x p q t. a y x p q) y x p q refl
+-- the picture at a level comes from the coefficients in its area alone
+pub level-alike : (k : Kernel) (J j W H : ℕ) (P P′ : Picture ℤ) → Alike (side j W) (side j H) P P′
+    → Alike (side j W) (side j H) (levelPicture k J j W H P) (levelPicture k J j W H P′)
+level-alike k J j W H P P′ a y x p q = let w = side j W in let h = side j H in
+    walk-covered (maskLine k) (back k) (covered k) (J - j) w h w h (λ y x. true) P P′ (omega arith) (omega arith) (λ y x p q t. a y x p q) y x p q refl
 
 -- level 0: its mask is the region, and its picture the undone numbers
 module _ (k : Kernel) (J W H : ℕ) (B : Picture Bool) (P : Picture ℤ) where

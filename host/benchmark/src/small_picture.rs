@@ -1,15 +1,18 @@
 //! The picture at level r of one large plane: its time without that of the tests,
-//! which go over the whole plane at every r.
+//! which go over the whole plane at every r, and OpenJPEG's for undoing as far.
 
 use std::cell::RefCell;
+use std::hint::black_box;
 
 use benchmark::size::Size;
-use benchmark::timing::best;
+use benchmark::timing::{best, Rounds};
 use benchmark::{accepted, DEPTH};
 
-use crate::KERNELS;
+use crate::{outside_53, KERNELS};
 
 const LEVELS: usize = 5;
+/// The level of which about a 64th of level 0's work is asked.
+const ASKED: usize = 3;
 /// The smallest magnitude that is refused.
 const TOO_LARGE: i32 = 1 << 22;
 
@@ -111,15 +114,34 @@ impl Buffers {
     }
 }
 
-/// The best times of the whole call and of its tests alone. The refused call, the
+/// Best times of a level.
+#[derive(Clone, Copy)]
+struct Times {
+    whole: f64,
+    tests: f64,
+}
+
+impl Times {
+    /// What the call takes without its tests.
+    fn rest(self) -> f64 {
+        self.whole - self.tests
+    }
+
+    /// Two runs of the tests alone may differ by a hundredth.
+    fn too_short(self) -> bool {
+        self.rest() < self.tests / 100.0
+    }
+}
+
+/// Times the whole call and, by a refused one, its tests alone. The refused call, the
 /// last, leaves the answer in the buffers.
-fn level_times(buffers: &RefCell<Buffers>, r: usize) -> [f64; 2] {
+fn level_times(buffers: &RefCell<Buffers>, r: usize) -> Times {
     buffers.borrow_mut().clear();
-    let mut whole = || buffers.borrow_mut().accept(r);
-    let mut tests = || buffers.borrow_mut().refuse(r);
-    let times = best([&mut whole, &mut tests]);
+    let mut accepted = || buffers.borrow_mut().accept(r);
+    let mut refused = || buffers.borrow_mut().refuse(r);
+    let [whole, tests] = Rounds::DIFFERENCE.best([&mut accepted, &mut refused]);
     buffers.borrow_mut().compare(r);
-    times
+    Times { whole, tests }
 }
 
 fn undo_and_show_time(buffers: &RefCell<Buffers>) -> f64 {
@@ -129,31 +151,68 @@ fn undo_and_show_time(buffers: &RefCell<Buffers>) -> f64 {
     time
 }
 
-/// What was undone and shown beside level 0's. Two runs of the tests alone may
-/// differ by a hundredth.
-fn share(time: f64, tests: f64, full: f64) -> String {
-    if time < tests / 100.0 {
-        return "too short".to_string();
+/// OpenJPEG's time for kernel 3, as far as a level is undone there; its picture must be
+/// the one in the buffers.
+fn outside_time(buffers: &Buffers, samples: &[u16], r: usize) -> Option<f64> {
+    if buffers.kernel != 3 || r == LEVELS {
+        return None;
     }
-    format!("1 : {:.1}", full / time)
+    let (time, picture) = outside_53::at_level(samples, buffers.size, LEVELS, r)?;
+    assert!(
+        buffers.undone[..picture.len()] == picture,
+        "level {r}: library and OpenJPEG differ"
+    );
+    Some(time)
 }
 
-fn print_kernel(kernel: usize, size: Size, samples: &[u16]) {
+fn print_level(name: &str, r: usize, area: Size, times: Times, full: Times, outside: Option<f64>) {
+    let Times { whole, tests } = times;
+    print!("| {name} | {r} | {area} | {whole:.3} ");
+    print!("| 1 : {:.1} ", full.whole / whole);
+    print!("| {tests:.3} | {:.3} ", times.rest());
+    if times.too_short() {
+        println!("| too short | | |");
+        return;
+    }
+    print!("| 1 : {:.1} ", full.rest() / times.rest());
+    match outside {
+        Some(time) => println!("| {time:.3} | {:.2} |", times.rest() / time),
+        None => println!("| | |"),
+    }
+}
+
+/// Gives how many times the asked level's time level 0 takes: the whole call, and
+/// without its tests.
+fn print_kernel(kernel: usize, size: Size, samples: &[u16]) -> [f64; 2] {
     let buffers = RefCell::new(Buffers::new(kernel, size, samples));
     let name = KERNELS[kernel];
-    let mut full = 0.0;
+    let mut levels: Vec<Times> = Vec::new();
     for r in 0..=LEVELS {
-        let [whole, tests] = level_times(&buffers, r);
-        let rest = whole - tests;
-        if r == 0 {
-            full = rest;
-        }
-        print!("| {name} | {r} | {} ", size.area(r));
-        print!("| {whole:.3} | {tests:.3} | {rest:.3} ");
-        println!("| {} |", share(rest, tests, full));
+        levels.push(level_times(&buffers, r));
+        let outside = outside_time(&buffers.borrow(), samples, r);
+        print_level(name, r, size.area(r), levels[r], levels[0], outside);
     }
     let time = undo_and_show_time(&buffers);
-    println!("| {name} | undo, show | {size} | {time:.3} | | | |");
+    println!("| {name} | undo, show | {size} | {time:.3} | | | | | | |");
+    let (full, asked) = (levels[0], levels[ASKED]);
+    [full.whole / asked.whole, full.rest() / asked.rest()]
+}
+
+/// One look at every coefficient of a plane, the least that a test of each can take.
+fn look_time(size: Size) -> f64 {
+    let plane = vec![1; size.samples()];
+    let look = || plane.iter().fold(0, |all, &c: &i32| all | c);
+    let [time] = best([&mut || {
+        black_box(look());
+    }]);
+    time
+}
+
+/// The least and the largest share.
+fn range(times: [f64; 4]) -> String {
+    let least = times.into_iter().fold(f64::INFINITY, f64::min);
+    let most = times.into_iter().fold(f64::NEG_INFINITY, f64::max);
+    format!("1 : {least:.1} to 1 : {most:.1}")
 }
 
 pub fn print(size: Size, samples: &[u16]) {
@@ -162,14 +221,26 @@ pub fn print(size: Size, samples: &[u16]) {
         "The plane of a {size} picture with five levels, shown at level r by one call of \
          dhiirqobaal_show_level. Tests: the same call on a plane whose last coefficient is 2^22; it is \
          refused with 10 after all tests, the pass over the whole plane among them, and nothing is \
-         undone. Undone and shown: the difference of the two, then r = 0's beside it ('too short' under \
-         a hundredth of the tests). The last line of each kernel, for comparison: dhiirqobaal_undo and \
-         then dhiirqobaal_show, which give what r = 0 gives.\n"
+         undone. Undone and shown: the difference of the two ('too short' under a hundredth of the \
+         tests). Shares are of r = 0's time in the column before. The last line of each kernel, for \
+         comparison: dhiirqobaal_undo and then dhiirqobaal_show, which give what r = 0 gives. OpenJPEG \
+         undoes: its 5/3 back to the same resolution, from the same coefficients with rows and columns \
+         exchanged, in place, without any test and without showing; its numbers were the library's.\n"
     );
-    println!("| kernel | r | area | whole call | tests | undone and shown | share of r = 0 |");
-    println!("|:--|{}", "---:|".repeat(6));
-    for kernel in 0..KERNELS.len() {
-        print_kernel(kernel, size, samples);
-    }
-    println!();
+    println!(
+        "| kernel | r | area | whole call | share | tests | undone and shown | share \
+         | OpenJPEG undoes | undone and shown : OpenJPEG |"
+    );
+    println!("|:--|{}", "---:|".repeat(9));
+    let shares = [0, 1, 2, 3].map(|kernel| print_kernel(kernel, size, samples));
+    println!(
+        "\nAsked of r = {ASKED} is about a 64th of r = 0, with no work on levels that are not undone and none \
+         outside the area. Undone and shown: {}. The whole calls: {}, since 10 is asked of every \
+         coefficient of the plane, whatever r is. A plain Rust loop that looks at each of as many \
+         numbers, and does no more than or them, took {:.3} ms in the same run. \
+         dhiirqobaal_show_stream has no such test.\n",
+        range(shares.map(|[_, rest]| rest)),
+        range(shares.map(|[whole, _]| whole)),
+        look_time(size),
+    );
 }

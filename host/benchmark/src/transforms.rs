@@ -13,7 +13,7 @@ fn outside_times(kernel: usize, size: Size, levels: usize, samples: &[u16]) -> [
     if kernel != 3 {
         return [More::NoKernel; 2];
     }
-    let Some(outside) = outside_53::run(samples, size.w, size.h, levels) else {
+    let Some(outside) = outside_53::run(samples, size, levels) else {
         return [More::NotInstalled; 2];
     };
     let mut plane = vec![0; size.samples()];

@@ -4,17 +4,36 @@ use crate::{finish, noise_picture, Folder, WORKED};
 use std::fs;
 use std::io::Write;
 use std::os::unix::fs::{symlink, MetadataExt, PermissionsExt};
-use std::os::unix::process::ExitStatusExt;
-use std::process::{Child, Stdio};
+use std::os::unix::process::{CommandExt, ExitStatusExt};
+use std::process::{Child, Command, Stdio};
 use std::time::{Duration, Instant};
 
 const HANGUP: i32 = 1;
 const INTERRUPT: i32 = 2;
 const TERMINATE: i32 = 15;
+const DEFAULT: usize = 0;
 
 extern "C" {
     /// The C library's: sends a signal to a process.
     fn kill(process: i32, signal: i32) -> i32;
+    /// The C library's: sets what a signal does.
+    fn signal(number: i32, action: usize) -> usize;
+}
+
+/// The program, to be ended by each of the signals: tests that run in the background, or under nohup, would hand on
+/// that some are ignored.
+fn interruptible(here: &Folder, line: &str) -> Command {
+    let mut command = here.program(line);
+    let as_usual = || {
+        for number in [HANGUP, INTERRUPT, TERMINATE] {
+            // SAFETY: the action runs no code.
+            unsafe { signal(number, DEFAULT) };
+        }
+        Ok(())
+    };
+    // SAFETY: `signal` may be called between the fork and the program's start.
+    unsafe { command.pre_exec(as_usual) };
+    command
 }
 
 fn send(child: &Child, signal: i32) {
@@ -33,7 +52,7 @@ fn long_work() -> (Folder, Vec<u8>) {
 }
 
 fn start(here: &Folder) -> Child {
-    let mut command = here.program("encode in.pgm out");
+    let mut command = interruptible(here, "encode in.pgm out");
     command.stdout(Stdio::null()).stderr(Stdio::null()).spawn().unwrap()
 }
 
@@ -85,7 +104,7 @@ fn an_interrupt_while_the_output_is_written() {
 fn an_interrupt_while_the_input_is_awaited() {
     let here = Folder::new();
     for signal in [HANGUP, INTERRUPT, TERMINATE] {
-        let mut command = here.program("info -");
+        let mut command = interruptible(&here, "info -");
         let mut child = command.stdin(Stdio::piped()).spawn().unwrap();
         let pipe = child.stdin.take();
         // Before the program has taken up its work, the signal ends it as it would any program.
