@@ -5,7 +5,7 @@ use std::cell::RefCell;
 use std::hint::black_box;
 
 use benchmark::size::Size;
-use benchmark::timing::{best, Rounds};
+use benchmark::timing::{best, parted, Parted};
 use benchmark::{accepted, DEPTH};
 
 use crate::{outside_53, KERNELS};
@@ -114,34 +114,15 @@ impl Buffers {
     }
 }
 
-/// Best times of a level.
-#[derive(Clone, Copy)]
-struct Times {
-    whole: f64,
-    tests: f64,
-}
-
-impl Times {
-    /// What the call takes without its tests.
-    fn rest(self) -> f64 {
-        self.whole - self.tests
-    }
-
-    /// Two runs of the tests alone may differ by a hundredth.
-    fn too_short(self) -> bool {
-        self.rest() < self.tests / 100.0
-    }
-}
-
 /// Times the whole call and, by a refused one, its tests alone. The refused call, the
 /// last, leaves the answer in the buffers.
-fn level_times(buffers: &RefCell<Buffers>, r: usize) -> Times {
+fn level_times(buffers: &RefCell<Buffers>, r: usize) -> Parted {
     buffers.borrow_mut().clear();
     let mut accepted = || buffers.borrow_mut().accept(r);
     let mut refused = || buffers.borrow_mut().refuse(r);
-    let [whole, tests] = Rounds::DIFFERENCE.best([&mut accepted, &mut refused]);
+    let times = parted(&mut accepted, &mut refused);
     buffers.borrow_mut().compare(r);
-    Times { whole, tests }
+    times
 }
 
 fn undo_and_show_time(buffers: &RefCell<Buffers>) -> f64 {
@@ -165,18 +146,24 @@ fn outside_time(buffers: &Buffers, samples: &[u16], r: usize) -> Option<f64> {
     Some(time)
 }
 
-fn print_level(name: &str, r: usize, area: Size, times: Times, full: Times, outside: Option<f64>) {
-    let Times { whole, tests } = times;
+fn print_level(
+    name: &str,
+    r: usize,
+    area: Size,
+    times: Parted,
+    full: Parted,
+    outside: Option<f64>,
+) {
+    let Parted { whole, part, rest } = times;
     print!("| {name} | {r} | {area} | {whole:.3} ");
-    print!("| 1 : {:.1} ", full.whole / whole);
-    print!("| {tests:.3} | {:.3} ", times.rest());
-    if times.too_short() {
+    print!("| 1 : {:.1} | {part:.3} | {rest:.3} ", full.whole / whole);
+    if rest < part / 100.0 {
         println!("| too short | | |");
         return;
     }
-    print!("| 1 : {:.1} ", full.rest() / times.rest());
+    print!("| 1 : {:.1} ", full.rest / rest);
     match outside {
-        Some(time) => println!("| {time:.3} | {:.2} |", times.rest() / time),
+        Some(time) => println!("| {time:.3} | {:.2} |", rest / time),
         None => println!("| | |"),
     }
 }
@@ -186,7 +173,7 @@ fn print_level(name: &str, r: usize, area: Size, times: Times, full: Times, outs
 fn print_kernel(kernel: usize, size: Size, samples: &[u16]) -> [f64; 2] {
     let buffers = RefCell::new(Buffers::new(kernel, size, samples));
     let name = KERNELS[kernel];
-    let mut levels: Vec<Times> = Vec::new();
+    let mut levels: Vec<Parted> = Vec::new();
     for r in 0..=LEVELS {
         levels.push(level_times(&buffers, r));
         let outside = outside_time(&buffers.borrow(), samples, r);
@@ -195,7 +182,7 @@ fn print_kernel(kernel: usize, size: Size, samples: &[u16]) -> [f64; 2] {
     let time = undo_and_show_time(&buffers);
     println!("| {name} | undo, show | {size} | {time:.3} | | | | | | |");
     let (full, asked) = (levels[0], levels[ASKED]);
-    [full.whole / asked.whole, full.rest() / asked.rest()]
+    [full.whole / asked.whole, full.rest / asked.rest]
 }
 
 /// One look at every coefficient of a plane, the least that a test of each can take.
@@ -221,11 +208,12 @@ pub fn print(size: Size, samples: &[u16]) {
         "The plane of a {size} picture with five levels, shown at level r by one call of \
          dhiirqobaal_show_level. Tests: the same call on a plane whose last coefficient is 2^22; it is \
          refused with 10 after all tests, the pass over the whole plane among them, and nothing is \
-         undone. Undone and shown: the difference of the two ('too short' under a hundredth of the \
-         tests). Shares are of r = 0's time in the column before. The last line of each kernel, for \
+         undone. Both are called in turn; undone and shown is the median of the differences ('too short' \
+         under a hundredth of the tests). Shares are of r = 0's time in the column before. The last line of each kernel, for \
          comparison: dhiirqobaal_undo and then dhiirqobaal_show, which give what r = 0 gives. OpenJPEG \
-         undoes: its 5/3 back to the same resolution, from the same coefficients with rows and columns \
-         exchanged, in place, without any test and without showing; its numbers were the library's.\n"
+         undoes: the best time of its 5/3 back to the same resolution, from the same coefficients with \
+         rows and columns exchanged, in place, without any test and without showing; its numbers were \
+         the library's.\n"
     );
     println!(
         "| kernel | r | area | whole call | share | tests | undone and shown | share \

@@ -69,6 +69,42 @@ impl Rounds {
     }
 }
 
+/// Two pieces of work, of which the second is a part of the first.
+#[derive(Clone, Copy)]
+pub struct Parted {
+    /// The best time of the first.
+    pub whole: f64,
+    /// The best time of the second.
+    pub part: f64,
+    /// What the first takes more: the median of the differences of each round, since
+    /// those of best times, of rounds that may lie apart, can be larger than it.
+    pub rest: f64,
+}
+
+/// Runs both in turn, round by round.
+pub fn parted(whole: &mut dyn FnMut(), part: &mut dyn FnMut()) -> Parted {
+    const ROUNDS: usize = 400;
+    const LONG_ENOUGH: Duration = Duration::from_secs(5);
+    let time = |work: &mut dyn FnMut()| {
+        let start = Instant::now();
+        work();
+        start.elapsed().as_secs_f64() * 1e3
+    };
+    let begin = Instant::now();
+    let mut rounds = Vec::new();
+    while rounds.len() < ROUNDS && (rounds.len() < LEAST_ROUNDS || begin.elapsed() < LONG_ENOUGH) {
+        rounds.push([time(whole), time(part)]);
+    }
+    let least = |i: usize| rounds.iter().map(|r| r[i]).fold(f64::INFINITY, f64::min);
+    let mut rests: Vec<f64> = rounds.iter().map(|[whole, part]| whole - part).collect();
+    rests.sort_by(f64::total_cmp);
+    Parted {
+        whole: least(0),
+        part: least(1),
+        rest: rests[rests.len() / 2],
+    }
+}
+
 /// The best times of the usual rounds.
 pub fn best<const N: usize>(works: [&mut dyn FnMut(); N]) -> [f64; N] {
     Rounds::USUAL.best(works)
