@@ -209,11 +209,11 @@ pub fn print(size: Size, samples: &[u16]) {
          dhiirqobaal_show_level. Tests: the same call on a plane whose last coefficient is 2^22; it is \
          refused with 10 after all tests, the pass over the whole plane among them, and nothing is \
          undone. Both are called in turn; undone and shown is the median of the differences ('too short' \
-         under a hundredth of the tests). Shares are of r = 0's time in the column before. The last line of each kernel, for \
-         comparison: dhiirqobaal_undo and then dhiirqobaal_show, which give what r = 0 gives. OpenJPEG \
-         undoes: the best time of its 5/3 back to the same resolution, from the same coefficients with \
-         rows and columns exchanged, in place, without any test and without showing; its numbers were \
-         the library's.\n"
+         under a hundredth of the tests). Shares are of r = 0's time in the column before. The last line \
+         of each kernel, for comparison: dhiirqobaal_undo and then dhiirqobaal_show, which give what \
+         r = 0 gives. OpenJPEG undoes: the best time of its 5/3 back to the same resolution, from the \
+         same coefficients with rows and columns exchanged, in place, without any test and without \
+         showing; its numbers were the library's.\n"
     );
     println!(
         "| kernel | r | area | whole call | share | tests | undone and shown | share \

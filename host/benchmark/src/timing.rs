@@ -76,8 +76,8 @@ pub struct Parted {
     pub whole: f64,
     /// The best time of the second.
     pub part: f64,
-    /// What the first takes more: the median of the differences of each round, since
-    /// those of best times, of rounds that may lie apart, can be larger than it.
+    /// What the first takes more, the median of the rounds' differences: the best times
+    /// may be of rounds far apart, in which the machine was not equally busy.
     pub rest: f64,
 }
 
