@@ -58,7 +58,7 @@ done
 if [ -n "${INTERFACE_LIBRARY:-}" ]; then
     export INTERFACE_LIBRARY="$library"
 else
-    rt staticlib interface
+    sh host/library.sh interface
 fi
 if [ -z "${TOOL_PROGRAM:-}" ]; then
     sh host/setup.sh

@@ -12,47 +12,23 @@ cd "$root"
 sh host/setup.sh
 # Without OpenJPEG the rest is timed all the same.
 sh host/setup.sh libopenjp2-7-dev || true
-[ -n "${INTERFACE_LIBRARY:-}" ] || rt staticlib interface >&2
-[ -n "${COMPARISON_LIBRARY:-}" ] || rt staticlib comparison >&2
+[ -n "${INTERFACE_LIBRARY:-}" ] || sh host/library.sh interface >&2
+[ -n "${COMPARISON_LIBRARY:-}" ] || sh host/library.sh comparison >&2
 
 CARGO_TARGET_DIR=$root/target/host cargo build --release --offline --quiet -j 2 --manifest-path host/Cargo.toml \
     -p benchmark -p comparison -p dhiirqobaal
 
-# The base is the last library whose writer and reader take one coefficient at a
-# time.
-commit=7a85ab7
-base=$root/target/base-$commit
-
-# Takes the base from the repository's own history, in a work tree that is removed
-# again. The library is kept, since proving it takes minutes.
-build_base() (
-    tree=$base/tree
-    git worktree remove --force "$tree" 2>/dev/null || true
-    trap 'git worktree remove --force "$tree"' EXIT
-    trap 'exit 1' HUP INT TERM
-    git worktree add --quiet --detach "$tree" "$commit"
-    (cd "$tree" && rt staticlib interface) >&2
-    cp "$tree/target/staticlib/libinterface.a" "$base/libinterface.a"
-)
-
+# The base is a library to compare with, as that of an earlier commit, which BASE_LIBRARY names.
 BASE="the library that BASE_LIBRARY names"
-if [ -z "${BASE_LIBRARY:-}" ]; then
-    BASE="the library at commit $commit, whose writer and reader take one coefficient at a time"
-    mkdir -p "$base"
-    if [ ! -f "$base/libinterface.a" ] && git cat-file -e "$commit^{commit}" 2>/dev/null; then
-        build_base
-    fi
-    [ ! -f "$base/libinterface.a" ] || BASE_LIBRARY=$base/libinterface.a
-fi
 export BASE
 
 # Two libraries with the same names cannot be in one program: the same program is
-# built twice. Without a base, as in a shallow clone, the section says so.
+# built twice. Without a base the section says so.
 unset BODY_TIMES_BASE BODY_TIMES_NOW
 if [ -n "${BASE_LIBRARY:-}" ]; then
-    INTERFACE_LIBRARY=$BASE_LIBRARY CARGO_TARGET_DIR=$base/host cargo build --release --offline --quiet -j 2 \
+    INTERFACE_LIBRARY=$BASE_LIBRARY CARGO_TARGET_DIR=$root/target/base cargo build --release --offline --quiet -j 2 \
         --manifest-path host/Cargo.toml -p benchmark --bin body_times
-    BODY_TIMES_BASE=$base/host/release/body_times
+    BODY_TIMES_BASE=$root/target/base/release/body_times
     BODY_TIMES_NOW=$root/target/host/release/body_times
     export BODY_TIMES_BASE BODY_TIMES_NOW
 fi

@@ -16,7 +16,7 @@ fn main() {
     println!("cargo:rerun-if-changed={}", library.display());
     assert!(
         library.is_file(),
-        "no library at {}; `rt staticlib interface` makes it",
+        "no library at {}; `sh host/library.sh interface` makes it",
         library.display()
     );
     let folder = library.parent().expect("the path of a file");

@@ -17,7 +17,7 @@ fn main() {
     println!("cargo:rerun-if-changed={}", library.display());
     assert!(
         library.is_file(),
-        "no library at {}; `rt staticlib comparison` makes it",
+        "no library at {}; `sh host/library.sh comparison` makes it",
         library.display()
     );
     let folder = library.parent().expect("the path of a file");

@@ -7,6 +7,6 @@ root=$(cd "$(dirname "$0")/../.." && pwd)
 folder=${1:-"$root/target/demo"}
 
 sh "$root/host/setup.sh"
-(cd "$root" && rt staticlib interface)
+sh "$root/host/library.sh" interface
 (cd "$root/host" && CARGO_TARGET_DIR="$root/target/host" cargo build --release --offline --jobs 2 -p dhiirqobaal)
 "$root/target/host/release/dhiirqobaal" demo "$folder"

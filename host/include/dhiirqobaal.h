@@ -1,7 +1,7 @@
 /*
  * dhiirqobaal.h: the C interface of Dhiirqobaal, a codec for exact-region panel shots.
  *
- * The library is a static one, target/staticlib/libinterface.a in the repository, made by `rt staticlib interface`.
+ * The library is a static one, target/staticlib/libinterface.a in the repository, made by `sh host/library.sh interface`.
  * `sh host/install.sh PREFIX` installs it as PREFIX/lib/libdhiirqobaal.a, with this header and a pkg-config file:
  *   cc program.c $(pkg-config --cflags --libs dhiirqobaal)
  * It is C99 or later, or C++.

@@ -6,7 +6,7 @@ set -eu
 root=$(cd "$(dirname "$0")/../.." && pwd)
 cd "$root"
 
-[ -n "${INTERFACE_LIBRARY:-}" ] || rt staticlib interface
+[ -n "${INTERFACE_LIBRARY:-}" ] || sh host/library.sh interface
 library=${INTERFACE_LIBRARY:-target/staticlib/libinterface.a}
 folder=${CARGO_TARGET_DIR:-target/host}
 mkdir -p "$folder"

@@ -25,24 +25,25 @@ THEOREMS = [('exactness', 'Demands', ['Demand2', 'Demand3', 'Arrived', 'SmallPic
             ('brightness', 'Laws', ['Brightness'])]
 KIT = [
     ('ℕ, zero, suc', 'natural numbers; `suc n` is n + 1'),
-    ('_+_, _*_, _^_, min, max', 'as usual, on natural numbers'),
-    ('_-_', 'on natural numbers: 0 where the difference would be negative'),
-    ('_/_, _%_', 'quotient and remainder of natural numbers'),
+    ('◌+◌, ◌*◌, ◌^◌, min, max', 'as usual, on natural numbers'),
+    ('◌-◌', 'on natural numbers: 0 where the difference would be negative'),
+    ('◌/◌, ◌%◌', 'quotient and remainder of natural numbers'),
     ('ℤ, pos, negsuc', 'whole numbers: `pos n` is n, `negsuc n` is −(n + 1)'),
-    ('_+ℤ_, _-ℤ_, _*ℤ_, negℤ, natAbs', 'on whole numbers: sum, difference, product, −z, magnitude'),
-    ('_<_, _≤_', 'as statements'),
+    ('◌+ℤ◌, ◌-ℤ◌, ◌*ℤ◌, neg_ℤ, nat_abs', 'on whole numbers: sum, difference, product, −z, magnitude'),
+    ('◌<◌, ◌≤◌', 'as statements'),
     ('ltb, leb, eqb', '<, ≤ and = of natural numbers, as truth values'),
-    ('Bool, true, false, not, _&&_, _||_', 'truth values'),
-    ('_≡_, _≢_', 'is equal, is not equal; of functions, at every argument'),
+    ('Bool, true, false, not, ◌&&◌, ◌||◌', 'truth values'),
+    ('◌≡◌, ◌≢◌', 'is equal, is not equal; of functions, at every argument'),
     ('×', '`A × B`: both; `(x : A) × B`: there is an x of A with B. A record holds where all its fields do'),
-    ('List, [], _∷_, _++_', 'lists: the empty one, one more in front, one behind the other'),
+    ('List, [], ◌∷◌, ◌++◌', 'lists: the empty one, one more in front, one behind the other'),
     ('length, replicate', 'the number of cells; n equal cells'),
-    ('getD', '`getD l i o` is cell i of l, o past its end'),
+    ('get_or', '`get_or l i o` is cell i of l, o past its end'),
     ('take, drop', 'the first n cells; the cells behind them'),
 ]
 LANGUAGE = '''`abbrev` and `unfoldable` begin a definition and say how the checker treats it; `λ x. e` is the function that gives e for x. A `use` of
-`Rattle·grid.specs.Picture` is of `crates/grid/specs/Picture.antt`; `specs.declared.Kernel` is the type `Kernel` of the crate's `src/lib.rt`. In a
-contract, `now (b .entry)` and `now (b .exit)` are what the buffer b holds before and after the call, r is what the call returns.'''
+`Rattle.grid.specs.Picture` is of `crates/grid/specs/Picture.antt`; `specs.declared.Kernel` is the type `Kernel` of the crate's `src/lib.rt`. In a
+contract, `b.old` and `b.new` are what the buffer b holds before and after the call, `b.now` is what a buffer that is only read holds, and `result` is what
+the call returns.'''
 PROMISES = 'The records of demands 2 and 3, of what arrived, of the small picture, of joining and of brightness, and the contracts of demand 1, none of which has a `requires`.'
 INNER = '''These files of `specs/` hold what only the contracts of inner functions, proofs and worked examples cite. No promise depends on them: a
 wrong definition there can make a proof fail, not a promise hollow.'''
@@ -59,7 +60,7 @@ def read(path):
 
 def crates():
     """The crates in the order of crates.txt."""
-    return [line.split(':')[0] for line in read('crates.txt').split('\n') if ':' in line and not line.startswith('#')]
+    return [line.split(':')[0].split()[0] for line in read('crates.txt').split('\n') if ':' in line and not line.startswith('#')]
 
 
 def uses(text):
@@ -146,14 +147,15 @@ class Reader:
                 found.append(self.define(local.definitions[word]))
             elif word in names:
                 found.append(self.name(names[word], word))
-            elif f'_{word}_' in names:
-                self.kit.add(f'_{word}_')
+            elif f'◌{word}◌' in names:
+                self.kit.add(f'◌{word}◌')
         return [f for f in found if f]
 
     def name(self, module, name):
-        own = re.fullmatch(r'Rattle·(\w+?)(?:·specs)?\.specs\.(.+)', module)
+        place = re.fullmatch(r'Rattle\.(\w+)\.(.+)', module)
+        own = place and place[1] in crates() and re.fullmatch(r'Rattle\.(\w+)\.specs\.(.+)', module)
         if not own:
-            if 'Rattle·' in module:
+            if place and place[1] in crates():
                 raise Failure(f'{name} is to be believed and stands in {module}, not in specs/')
             self.kit.add(name)
             return None
@@ -183,7 +185,7 @@ class Reader:
         text = read(path)
         if other := re.search(rf'^use (\w+)::{name};', text, re.M):
             return self.type(other[1], name)
-        found = re.search(rf'((?:^//[^\n]*\n)*)^pub (?:enum|struct) {name} \{{(.*?)^\}}', text, re.M | re.S)
+        found = re.search(rf'((?:^//[^\n]*\n)*)(?:^#\[[^\n]*\n)*^pub (?:enum|struct) {name} \{{(.*?)^\}}', text, re.M | re.S)
         if not found or (crate, name) in self.types:
             return
         line = text[:found.end(1)].count('\n') + 1
@@ -203,7 +205,7 @@ class Reader:
             raise Failure(f'{crate}::{function} has a requires')
         for result in re.findall(r'\) -> ([A-Z]\w+)\n', found[0]):
             self.type(crate, result)
-        promised = ' '.join(re.findall(r'ensures \{(.*)\}$', found[0], re.M))
+        promised = ' '.join(re.findall(r'ensures(?: \w+)? \{(.*)\}$', found[0], re.M))
         return path, text[:found.start()].count('\n') + 1, self.follow(promised, *uses(text))
 
     def promises(self):

@@ -1,4 +1,6 @@
 // The brightness of a region: how many samples it has, their sum, and the sum divided by their number.
+#![tactic(auto)]
+
 ghost use Rattle.std.specs.Prelude.{◌≡◌, ◌+◌, ◌*◌, ◌≤◌, ltb, length, get_or};
 ghost use Rattle.line.specs.Cells.{choose, behind, total, count};
 ghost use Rattle.line.specs.Mask.{marked, any_below};
@@ -10,7 +12,7 @@ ghost use Rattle.brightness.specs.Inner.{Sized};
 use refusal::Refusal;
 
 // The result numbers of an accepted call.
-#[derive(Drop)]
+#[derive(Clone, Copy)]
 pub struct Figures {
     pub number: u64,
     pub sum: u64,
@@ -19,14 +21,14 @@ pub struct Figures {
 }
 
 // What `brightness` answers.
-#[derive(Drop)]
+#[derive(Clone, Copy)]
 pub enum Outcome {
     Measured(Figures),
     Refused(Refusal),
 }
 
 // How many samples are in the region, their sum, and whether a region byte is above 1.
-#[derive(Drop)]
+#[derive(Clone, Copy)]
 struct Found {
     number: u64,
     sum: u64,

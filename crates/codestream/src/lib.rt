@@ -1,1 +1,3 @@
+#![tactic(auto)]
+
 // Definitions and theorems on whole codestreams; no code.

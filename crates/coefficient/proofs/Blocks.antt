@@ -1,5 +1,5 @@
 -- Some coefficients at once: what they take, and what they become. Assumes nothing.
-use mathlib.Core.Path.{◌≡◌, refl, sym, ap, ◌∙◌}
+use mathlib.Core.Path.{◌≡◌, refl, ap, ◌∙◌}
 use mathlib.Core.Bool.{Bool, true, false}
 use mathlib.Core.List.{List}
 use Prim.Native.Nat.{ℕ, zero, suc, ◌+◌, ◌*◌, ◌/◌, ◌%◌, ◌^◌, ◌<◌, ◌≤◌}
@@ -13,7 +13,6 @@ use borrow.Author.Count.{below_more}
 use Rattle.line.specs.Cells.{choose, cell}
 use Rattle.line.proofs.Cells.{by_bool}
 use Rattle.bitplane.specs.Bits.{gathered}
-use Rattle.bitplane.specs.Body.{one_plane}
 use Rattle.bitplane.specs.Reader.{Received, Reading, used, grown, place}
 use Rattle.bitplane.proofs.Past.{used_most}
 use Rattle.coefficient.specs.Growth.{Takes, Small, Grown}

@@ -1,4 +1,6 @@
 // What a bit plane gives to a coefficient, as it is read: how many bits it takes, what it becomes; and the same of 16 coefficients at once.
+#![tactic(auto)]
+
 ghost use Rattle.std.specs.Prelude.{◌≡◌, true, ◌+◌, ◌*◌, ◌/◌, ◌%◌, ◌^◌, ◌<◌, ◌≤◌, eqb, pos, nat_abs, length};
 ghost use Rattle.line.specs.Cells.{choose, behind};
 ghost use Rattle.bitplane.specs.Bits.{bit_at};
@@ -33,6 +35,7 @@ pub fn weight(t: u64) -> i32
 }
 
 // How many bits coefficient v takes, of which b is the first, if it is a member of the class (1), and none if not (0).
+#[tactic(auto, using(std::proofs::lemmas::Int::ints), unfolding(bitplane::specs::Reader::used))]
 pub fn width(v: i32, b: u64, member: u64) -> u64
     requires { (b < 2) × (member < 2) }
     ensures { result ≡ choose (eqb member 1) (used v b) 0 }
@@ -43,6 +46,7 @@ pub fn width(v: i32, b: u64, member: u64) -> u64
 
 // Coefficient v after two bits of plane t, as a number: the bit of that plane, and the sign if that is its first 1; step is what a bit of
 // that plane counts.
+#[tactic(auto, using(std::proofs::lemmas::Int::ints), unfolding(bitplane::specs::Reader::grown, bitplane::specs::Bits::signed))]
 pub fn grow(v: i32, two: u32, t: u64, step: i32) -> i32
     requires { (two < 4) × (step ≡ pos (2 ^ t)) × (2 ≤ two → nat_abs v + 2 ^ t ≤ 1073741824) }
     ensures { result ≡ grown t true v (two / 2) (two % 2) }
@@ -63,6 +67,7 @@ pub fn grow(v: i32, two: u32, t: u64, step: i32) -> i32
 }
 
 // The two bits from place p on as a number, of which b is the first. A first 1 whose sign did not arrive counts as 0.
+#[tactic(auto, unfolding(bitplane::specs::Bits::bit_at, bitplane::specs::Reader::grown, bitplane::specs::Bits::signed))]
 pub fn pair(body: &[u8], p: usize, b: usize, v: i32) -> u32
     requires { (p + 1 < 2 ^ 64) × (b ≡ bit_at body.now p) }
     ensures { Pair (received body.now) v p result }

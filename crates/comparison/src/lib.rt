@@ -1,5 +1,7 @@
 // The passes before paper 3 of document 02 for C, one level each way, for the comparison alone. What each promises is what the library's
 // function promises of one level, of even sides.
+#![tactic(auto)]
+
 ghost use Rattle.std.specs.Prelude.{◌≡◌, pos, length};
 ghost use Rattle.refusal.specs.Numbers.{answer_number, first, accepted};
 ghost use Rattle.refusal.specs.Results.{Result};

@@ -1,16 +1,19 @@
 // The bit cursor: a lent body and the place of the next bit in it. `bit_at` and `after` do the work on plain values; the functions over the cursor are thin.
 // Beside it the window: 64 bits of a body at once, for blocks of coefficients.
+#![tactic(auto)]
+
 ghost use Rattle.std.specs.Prelude.{◌≡◌, ◌+◌, ◌-◌, ◌*◌, ◌/◌, ◌%◌, ◌^◌, ◌<◌, ◌≤◌, length};
 ghost use Rattle.bitplane.specs.Bits.{bit_at, gathered};
 ghost use Rattle.cursor.specs.Cursor.{over, bit_here, place_after, moved};
 
-#[derive(Drop)]
+#[derive(Clone, Copy)]
 pub struct BitCursor<'a> {
     body: &'a [u8],
     at: usize,
 }
 
 // The bit at a place, highest bit of a byte first, and 0 past the end.
+#[tactic(auto, unfolding(bitplane::specs::Bits::bit_at))]
 pub fn bit_at(body: &[u8], at: usize) -> usize
     ensures { result ≡ bit_at body.now at }
 {

@@ -1,4 +1,6 @@
 // Cuts codestreams.
+#![tactic(auto)]
+
 ghost use Rattle.std.specs.Prelude.{◌≡◌, length};
 ghost use Rattle.refusal.specs.Numbers.{first};
 ghost use Rattle.codestream.specs.Reading.{plane_after, mask_after};
@@ -9,7 +11,7 @@ ghost use Rattle.cutter.specs.Answers.{numbers_of};
 use refusal::Refusal;
 
 // What `cut` answers. `TooShort` is refusal 11, with the needed length.
-#[derive(Drop)]
+#[derive(Clone, Copy)]
 pub enum Outcome {
     Done(usize),
     TooShort(usize),

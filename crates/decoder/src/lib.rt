@@ -1,4 +1,6 @@
 // Reads codestreams.
+#![tactic(auto)]
+
 ghost use Rattle.std.specs.Prelude.{◌≡◌, length};
 ghost use Rattle.refusal.specs.Numbers.{first};
 ghost use Rattle.codestream.specs.Reading.{buffer_tests, filling_test, read_numbers, shot_read, plane_after, mask_after};
@@ -12,7 +14,7 @@ use refusal::Refusal;
 use shot::Setting;
 
 // What was found in a body; `missing` is q, the planes of the unmarked that were not wholly received.
-#[derive(Drop)]
+#[derive(Clone, Copy)]
 pub struct Body {
     pub marks: usize,
     pub whole: bool,
@@ -21,14 +23,14 @@ pub struct Body {
 }
 
 // What was found, or the refusal.
-#[derive(Drop)]
+#[derive(Clone, Copy)]
 pub enum Outcome {
     Done(Body),
     Refused(Refusal),
 }
 
 // What `read` answers. Under a refusal every number of the header is 0.
-#[derive(Drop)]
+#[derive(Clone, Copy)]
 pub struct Reading {
     pub outcome: Outcome,
     pub header: Header,

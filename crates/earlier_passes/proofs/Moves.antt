@@ -42,4 +42,4 @@ module _ {add : Bool} {amount : ℕ → ℤ} {s n k : ℕ} {l l' : List ℤ} {z 
 
   pub moving_more : {v : ℤ} → k < n → mag v < 2 ^ hbits w32 → v ≡ moved add (to_z w32 (of_z w32 (cell l' (s + k)))) (to_z w64 (of_z w64 z))
       → Moving add amount s n l (set l' (s + k) (to_z w32 (of_z w32 v))) (k + 1)
-  moving_more h o d = record { room = m.room; count = omega arith; so_far = written_more (s + k) m.so_far (omega arith) (omega (arith, m.room)) (to_z-of_z (sfits_of o) ∙ d ∙ read) }
+  moving_more h o d = record { room = m.room; count = omega arith; so_far = written_more (s + k) m.so_far (omega arith) (omega (arith, m.room)) (to_z-of_z {w = w32} (sfits_of o) ∙ d ∙ read) }

@@ -35,7 +35,7 @@ pairing_all {n = n} m h = (written_all n m.first (omega (arith, m.count)), writt
 module _ {f g : ℤ → ℤ → ℤ} {n k : ℕ} {a b a' b' : List ℤ}
     (m : Pairing f g n a b a' b' k) (p : mag (cell a' k) < 2 ^ hbits w32) (q : mag (cell b' k) < 2 ^ hbits w32) where
   read : (h : ℤ → ℤ → ℤ) → h (to_z w32 (of_z w32 (cell a' k))) (to_z w32 (of_z w32 (cell b' k))) ≡ h (cell a k) (cell b k)
-  read h = rw (to_z-of_z (sfits_of p), to_z-of_z (sfits_of q), m.first.above k (omega arith), m.second.above k (omega arith))
+  read h = rw (to_z-of_z {w = w32} (sfits_of p), to_z-of_z {w = w32} (sfits_of q), m.first.above k (omega arith), m.second.above k (omega arith))
 
   pub pair_fits : (h : ℤ → ℤ → ℤ) → SFits w32 (h (cell a k) (cell b k)) → SFits w32 (h (to_z w32 (of_z w32 (cell a' k))) (to_z w32 (of_z w32 (cell b' k))))
   pair_fits h fit = rw (read h) fit
@@ -46,6 +46,6 @@ module _ {f g : ℤ → ℤ → ℤ} {n k : ℕ} {a b a' b' : List ℤ}
   pairing_more h fv fw ev ew = record {
     room = m.room;
     count = omega arith;
-    first = written_more k m.first (omega arith) (omega (arith, m.room)) (to_z-of_z (sfits_of fv) ∙ ev ∙ read f);
-    second = written_more k m.second (omega arith) (omega (arith, m.room)) (to_z-of_z (sfits_of fw) ∙ ew ∙ read g);
+    first = written_more k m.first (omega arith) (omega (arith, m.room)) (to_z-of_z {w = w32} (sfits_of fv) ∙ ev ∙ read f);
+    second = written_more k m.second (omega arith) (omega (arith, m.room)) (to_z-of_z {w = w32} (sfits_of fw) ∙ ew ∙ read g);
   }

@@ -1,4 +1,6 @@
 // The passes before paper 3 of document 02, for the comparison alone: one level of the transform, and the way back.
+#![tactic(auto)]
+
 ghost use Rattle.std.specs.Prelude.{◌≡◌, ◌-◌, ◌^◌, pos, length, get_or};
 ghost use Rattle.line.specs.Transform.{forward, back};
 ghost use Rattle.grid.specs.Picture.{row_pass, col_pass, picture};

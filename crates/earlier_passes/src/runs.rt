@@ -11,7 +11,7 @@ ghost use Rattle.earlier_passes.specs.declared.runs.Step.TheVariants as step;
 use crate::steps;
 
 // A lifting step: that of kernel 1, that of kernel 2, and the two of kernel 3, for its highs and for its lows.
-#[derive(Drop)]
+#[derive(Clone, Copy)]
 pub enum Step {
     SPlusP,
     TT,
@@ -20,7 +20,7 @@ pub enum Step {
 }
 
 // Where a run of numbers begins, and where the numbers before and after each of them begin.
-#[derive(Drop)]
+#[derive(Clone, Copy)]
 pub struct Taps {
     pub here: usize,
     pub before2: usize,

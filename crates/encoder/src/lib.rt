@@ -1,4 +1,6 @@
 // Writes codestreams.
+#![tactic(auto)]
+
 ghost use Rattle.std.specs.Prelude.{◌≡◌, true, length};
 ghost use Rattle.kernel.specs.Kernels.{the_kernel};
 ghost use Rattle.refusal.specs.Numbers.{first, accepted};
@@ -12,7 +14,7 @@ use refusal::Refusal;
 use shot::Setting;
 
 // The lengths of a stream that was written, and its number of marks.
-#[derive(Drop)]
+#[derive(Clone, Copy)]
 pub struct Lengths {
     pub total: usize,
     pub region_mark: usize,
@@ -20,7 +22,7 @@ pub struct Lengths {
 }
 
 // What `write` answers. `TooShort` is refusal 11, with the needed length.
-#[derive(Drop)]
+#[derive(Clone, Copy)]
 pub enum Outcome {
     Written(Lengths),
     TooShort(usize),

@@ -1,4 +1,6 @@
 // The header of a codestream, and the part behind it that carries the body.
+#![tactic(auto)]
+
 ghost use Rattle.std.specs.Prelude.{◌≡◌, ℕ, ◌+◌, ◌*◌, ◌<◌, ◌≤◌, length, get_or};
 ghost use Rattle.header.specs.Header.{number, front_length, bad_front, bad_header, bad_version, body_of};
 ghost use Rattle.header.specs.Fields.{bytes_of, laid, rectangle_fields};
@@ -157,7 +159,7 @@ pub fn write_header(
 }
 
 // What `arrived` answers: the length that was sent, or the refusal.
-#[derive(Drop)]
+#[derive(Clone, Copy)]
 pub enum Arrival {
     Sent(usize),
     Refused(Refusal),

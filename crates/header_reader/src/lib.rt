@@ -1,4 +1,6 @@
 // Reads the headers of codestreams.
+#![tactic(auto)]
+
 ghost use Rattle.std.specs.Prelude.{◌≡◌, ◌+◌, ◌*◌, ◌≤◌, length};
 ghost use Rattle.refusal.specs.Numbers.{first};
 ghost use Rattle.header.specs.Fields.{shot_of};
@@ -12,7 +14,7 @@ use refusal::Refusal;
 use shot::Setting;
 
 // A header with its rectangles' numbers, x, y, width and height of each in turn; 0 behind those of the last one.
-#[derive(Drop)]
+#[derive(Clone, Copy)]
 pub struct Header {
     pub kernel: usize,
     pub levels: usize,
@@ -25,7 +27,7 @@ pub struct Header {
 }
 
 // What `read_header` answers. Under a refusal every number of the header is 0.
-#[derive(Drop)]
+#[derive(Clone, Copy)]
 pub struct Headed {
     pub setting: Setting,
     pub header: Header,

@@ -1,4 +1,6 @@
 // The C interface: the entries as exported functions over numbers and slices. `host/include/dhiirqobaal.h` documents them.
+#![tactic(auto)]
+
 ghost use Rattle.std.specs.Prelude.{◌≡◌, ◌+◌, ◌^◌, ◌<◌, ◌≤◌, pos, length, get_or};
 ghost use Rattle.line.specs.Cells.{listed};
 ghost use Rattle.line.specs.Mask.{marked};

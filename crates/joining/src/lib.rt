@@ -1,4 +1,6 @@
 // Two regions joined, or two masks of one kernel and level count: every place of either.
+#![tactic(auto)]
+
 ghost use Rattle.std.specs.Prelude.{◌≡◌, true, length};
 ghost use Rattle.refusal.specs.Numbers.{answer_number, first, accepted};
 ghost use Rattle.refusal.specs.Results.{Result};

@@ -1,9 +1,11 @@
 // The kernels: four reversible transforms of a line, each with a number and a reach.
+#![tactic(auto)]
+
 ghost use Rattle.std.specs.Prelude.{◌≡◌};
 ghost use Rattle.kernel.specs.Kernels.{kernel_of, reach};
 
 // Kernels 0 to 3, in their order. An enum, so that no value of it is a kernel of another number.
-#[derive(Drop)]
+#[derive(Clone, Copy)]
 pub enum Kernel {
     S,
     SPlusP,
@@ -12,7 +14,7 @@ pub enum Kernel {
 }
 
 // What `Kernel::new` answers.
-#[derive(Drop)]
+#[derive(Clone, Copy)]
 pub enum Choice {
     Taken(Kernel),
     Refused,

@@ -1,4 +1,6 @@
 // Shows the picture at a level of a plane: the small picture that is left when the finest levels are not undone.
+#![tactic(auto)]
+
 ghost use Rattle.std.specs.Prelude.{◌≡◌, true, ◌-◌, ◌^◌, ◌≤◌, pos, length};
 ghost use Rattle.grid.specs.Picture.{side};
 ghost use Rattle.plane.specs.Inner.{Below};

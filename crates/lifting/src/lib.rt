@@ -1,4 +1,6 @@
 // Lifting: the line transforms, forward and back, in place on lines side by side whose two parts stand in one buffer.
+#![tactic(auto)]
+
 ghost use Rattle.std.specs.Prelude.{◌≡◌, ◌+◌, ◌*◌, ◌^◌, ◌≤◌, ◌<◌, min, length};
 ghost use Rattle.line.specs.Transform as line;
 ghost use Rattle.runs.specs.Steps.{tap_bound};

@@ -1,4 +1,6 @@
 // The transforms of a line and the line mask as definitions, with their theorems, and the border rule and the count of a test as code; `lifting` and `line_mask` have the rest of the code.
+#![tactic(auto)]
+
 ghost use Rattle.std.specs.Prelude.{◌≡◌, ◌<◌};
 ghost use Rattle.line.specs.Cells.{choose};
 ghost use Rattle.line.specs.Transform.{inside};

@@ -1,4 +1,6 @@
 // The line mask, on lines side by side in one buffer: the marks of their evens and odds become those of their lows and highs.
+#![tactic(auto)]
+
 ghost use Rattle.std.specs.Prelude.{◌+◌, ◌≤◌, length};
 ghost use Rattle.kernel.specs.declared.Kernel.TheVariants.{FiveThree};
 ghost use Rattle.line_mask.specs.Marks.{Apart, Parts, Joined, Reached, Masked};

@@ -1,5 +1,7 @@
 // Where the coefficients of a class lie, found once for all its passes: one bit for each 64 coefficients. Or, where they are few, the
 // coefficients themselves, one behind the other.
+#![tactic(auto)]
+
 ghost use Rattle.std.specs.Prelude.{◌≡◌, true, ◌+◌, ◌/◌, ◌<◌, ◌≤◌, pos, length};
 ghost use Rattle.line.specs.Cells.{choose, behind, cell, count};
 ghost use Rattle.bitplane.specs.Body.{class};

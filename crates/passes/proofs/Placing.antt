@@ -9,7 +9,7 @@ use lib.ListN.{get_or}
 use Rattle.kernel.specs.declared.Kernel.{Kernel}
 use Rattle.line.specs.Inner.{Agree, AllWithin}
 use Rattle.line.specs.Cells.{Line, low_side}
-use Rattle.line.specs.Transform.{low, high, forward}
+use Rattle.line.specs.Transform.{forward}
 use Rattle.line.proofs.Cells.{by_lt, by_parity}
 use Rattle.line.proofs.Local.{forward_local}
 use Rattle.grid.specs.Placed.{woven}

@@ -80,8 +80,8 @@ abbrev pub level_at : Kernel → Picture ℤ → ℕ → ℕ → Bool → ℕ �
 level_at k R M K false i x = lows_of k M K (even_rows R x) (odd_rows R x) i
 level_at k R M K true i x = highs_of k M K (even_rows R x) (odd_rows R x) i
 
-abbrev pub Rising : Kernel → Picture ℤ → ℕ → ℕ → ℕ → List ℤ → ℕ → ℕ → ℕ → List ℤ → Type 0
-Rising k R M K w u e b q l = Swept (row_at w M) (sample_at R) (first_at k R M K) (level_at k R M K) (counts M K) w u e b q l
+pub record Rising (k : Kernel) (R : Picture ℤ) (M K w : ℕ) (u : List ℤ) (e b q : ℕ) (l : List ℤ) : Type 0 where
+  pub swept : Swept (row_at w M) (sample_at R) (first_at k R M K) (level_at k R M K) (counts M K) w u e b q l
 
 -- ---- pairs that are stored
 module _ {k : Kernel} {s : List ℕ} {w q f : ℕ} {l l' : List ℤ} (h : ℕ) (top : f ≤ low_side h) (t : PairsIn k s w h q f l l') where
@@ -119,13 +119,13 @@ module _ {k : Kernel} {R : Picture ℤ} {M K w e b q : ℕ} (u l : List ℤ) (le
   row-cell_at c x i = ap (cell l) (part_row w M c i x)
 
   done_row : (c : Bool) (x i : ℕ) → x < w → i < e → i < counts M K c → row c x i ≡ level_at k R M K c i x
-  done_row c x i h a m = row-cell_at c x i ∙ r.done c i x a m h
+  done_row c x i h a m = row-cell_at c x i ∙ r.swept.done c i x a m h
 
   begun_row : (c : Bool) (x i : ℕ) → x < w → e ≤ i → i < b → i < counts M K c → row c x i ≡ first_at k R M K c i x
-  begun_row c x i h a d m = row-cell_at c x i ∙ r.begun c i x a d m h
+  begun_row c x i h a d m = row-cell_at c x i ∙ r.swept.begun c i x a d m h
 
   stored_row : (c : Bool) (x i : ℕ) → x < w → b ≤ i → i < q → i < counts M K c → row c x i ≡ sample_at R c i x
-  stored_row c x i h a d m = row-cell_at c x i ∙ r.placed c i x a d m h
+  stored_row c x i h a d m = row-cell_at c x i ∙ r.swept.placed c i x a d m h
 
   rows_hold : (x : ℕ) → x < w → Holds k 0 b (min b K) (first_low x) (first_high x) (row false x) (row true x)
   rows_hold x h = holds_in k M K e b (min b K) (even_rows R x) (odd_rows R x) (row false x) (row true x) le (omega arith) (omega arith)
@@ -234,8 +234,8 @@ module _ (k : Kernel) (w h : ℕ) (R : Picture ℤ) where
 
   level_cell : {q : ℕ} {u l : List ℤ} → Rising k R (low_side h) (h / 2) w u (low_side h) (low_side h) q l → (y x : ℕ) → y < h → x < w → cell l (y * w + x) ≡ col_pass (forward k) w h R y x
   level_cell {l = l} r y x i j = by_lt y (low_side h)
-      (λ lt. r.done false y x lt lt j ∙ column_low y x lt j)
-      (λ ge. let e : low_side h + (y - low_side h) ≡ y = omega arith in let p = r.done true (y - low_side h) x (omega arith) (omega arith) j ∙ column_high (y - low_side h) x (omega arith) j in rw e at p)
+      (λ lt. r.swept.done false y x lt lt j ∙ column_low y x lt j)
+      (λ ge. let e : low_side h + (y - low_side h) ≡ y = omega arith in let p = r.swept.done true (y - low_side h) x (omega arith) (omega arith) j ∙ column_high (y - low_side h) x (omega arith) j in rw e at p)
 
 pub level_all : {q : ℕ} {u l : List ℤ} (k : Kernel) (s : List ℕ) (w h : ℕ) → length u ≡ h * w → length s ≡ h * w
     → Rising k (row_pass (forward k) w h (pictured w s)) (low_side h) (h / 2) w u (low_side h) (low_side h) q l
@@ -243,7 +243,7 @@ pub level_all : {q : ℕ} {u l : List ℤ} (k : Kernel) (s : List ℕ) (w h : �
 level_all {l = l} k s w h same-u same_s r = fun_ext λ y. fun_ext λ x. by_lt x w
     (λ j. by_lt y h
     (λ i. grid.cell (pos 0) w l y x j ∙ level_cell k w h (row_pass (forward k) w h (pictured w s)) r y x i j)
-    (λ i. grid.cell (pos 0) w l y x j ∙ get_or-eq_default l (pos 0) (omega (arith, r.size, digits_le y x i))
+    (λ i. grid.cell (pos 0) w l y x j ∙ get_or-eq_default l (pos 0) (omega (arith, r.swept.size, digits_le y x i))
     ∙ sym (row_right (forward k) h w x y (turned (row_pass (forward k) w h (pictured w s))) i ∙ row_below (forward k) w h y x (pictured w s) i
     ∙ ap pos (grid.cell 0 w s y x j ∙ get_or-eq_default s 0 (omega (arith, digits_le y x i))))))
     (λ j. grid.cell_past (pos 0) w l y x j ∙ sym (row_below (forward k) h w x y (turned (row_pass (forward k) w h (pictured w s))) j ∙ row_right (forward k) w h y x (pictured w s) j ∙ ap pos (grid.cell_past 0 w s y x j)))
@@ -279,7 +279,7 @@ module _ (k : Kernel) (s : List ℕ) (w h : ℕ) (u : List ℤ) (cols : (x : ℕ
   module _ {l l₁ : List ℤ} (r : Rising k R M K w u n b q l) (t : PairsIn k s w h q g l l₁) where
     after_store : Rising k R M K w u n b g l₁
     after_store = let o = ahead_more lt a x v in
-        place_more (rows_apart w M K) r a.near a.order (more_placed lt a x v) (stored_changed h o.top t) (stored_new h o.top t)
+        record { swept = place_more (rows_apart w M K) r.swept a.near a.order (more_placed lt a x v) (stored_changed h o.top t) (stored_new h o.top t) }
 
     order : b ≤ g
     order = omega (arith, a.order, more_placed lt a x v)
@@ -296,8 +296,10 @@ module _ (k : Kernel) (s : List ℕ) (w h : ℕ) (u : List ℤ) (cols : (x : ℕ
       reached = omega (arith, begin_ahead lt a x v)
 
       after_first : Rising k R M K w u n f g l₂
-      after_first = let o = ahead_more lt a x v in begin_more (rows_apart w M K) after_store a.near (more_begun lt a x v) o.order
-          (first_changed u l₁ le fit a.near order o.top after_store o.order reached t₂) (first_new u l₁ le fit a.near order o.top after_store o.order reached t₂)
+      after_first = let o = ahead_more lt a x v in record {
+        swept = begin_more (rows_apart w M K) after_store.swept a.near (more_begun lt a x v) o.order
+            (first_changed u l₁ le fit a.near order o.top after_store o.order reached t₂) (first_new u l₁ le fit a.near order o.top after_store o.order reached t₂);
+      }
 
       near : n ≤ f
       near = omega (arith, (ahead_more lt a x v).near)
@@ -310,5 +312,7 @@ module _ (k : Kernel) (s : List ℕ) (w h : ℕ) (u : List ℤ) (cols : (x : ℕ
 
       pub after_second : {d : ℕ} {l₃ : List ℤ} → d ≡ min f K → Both (second_lows false k d) (second_highs false k f) 0 (M * w) w w n (n + 1) (min (n + 1) d) l₂ l₃
           → Rising k R M K w u (n + 1) f g l₃
-      after_second begun done = let t₃ = rw begun at done in let o = ahead_more lt a x v in let far : min (n + 3) M ≤ f = omega (arith, x) in end_more (rows_apart w M K) after_first some o.order
-          (second_changed u l₂ le fit near o.order o.top after_first some far t₃) (second_new u l₂ le fit near o.order o.top after_first some far t₃)
+      after_second begun done = let t₃ = rw begun at done in let o = ahead_more lt a x v in let far : min (n + 3) M ≤ f = omega (arith, x) in record {
+        swept = end_more (rows_apart w M K) after_first.swept some o.order
+            (second_changed u l₂ le fit near o.order o.top after_first some far t₃) (second_new u l₂ le fit near o.order o.top after_first some far t₃);
+      }

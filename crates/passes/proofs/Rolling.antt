@@ -50,8 +50,8 @@ abbrev pub ended_at : Kernel → Picture ℤ → ℕ → ℕ → Bool → ℕ �
 ended_at k R M K false i x = first_lows true k K (λ n. begun_at k R M K false n x) (λ n. begun_at k R M K true n x) i
 ended_at k R M K true i x = first_highs true k M (λ n. begun_at k R M K false n x) (λ n. begun_at k R M K true n x) i
 
-abbrev pub Rolled : Kernel → Picture ℤ → ℕ → ℕ → ℕ → ℕ → List ℤ → ℕ → ℕ → ℕ → List ℤ → Type 0
-Rolled k R M K S w u e b q l = Swept (at S) (plane_at R M) (begun_at k R M K) (λ c i. back k w (ended_at k R M K c i)) (counts M K) w u e b q l
+pub record Rolled (k : Kernel) (R : Picture ℤ) (M K S w : ℕ) (u : List ℤ) (e b q : ℕ) (l : List ℤ) : Type 0 where
+  pub swept : Swept (at S) (plane_at R M) (begun_at k R M K) (λ c i. back k w (ended_at k R M K c i)) (counts M K) w u e b q l
 
 pub pairs_apart : (S w : ℕ) (m : Bool → ℕ) → w ≤ S → Apart (at S) m w
 pairs_apart S w m wide c c' i i' x x' a b h h' e = pair_of S w c c' i i' x x' wide h h' e
@@ -68,7 +68,7 @@ module _ {k : Kernel} {W S w h e b q f : ℕ} (p u l l' : List ℤ) (z : Area W 
       t.off (2 * i * S + x)
       (λ i' x' c d g q' o. omega (arith, z.some_w, col_of S (2 * i) (2 * i') x x' (omega (arith, z.some_w)) (omega arith) o))
       (λ i' x' c d m q' o. omega (arith, row_of S (2 * i) (2 * i' + 1) x x' (omega (arith, z.some_w)) (omega arith) (o ∙ at_row S true i' x')))
-      ∙ r.left false i x a n (omega (arith, z.some_w)) ∙ sym (level_left W S w h p u i x n lt)
+      ∙ r.swept.left false i x a n (omega (arith, z.some_w)) ∙ sym (level_left W S w h p u i x n lt)
 
   pub placed_new : (c : Bool) (i x : ℕ) → q ≤ i → i < f → i < counts (low_side h) (h / 2) c → x < w → cell l' (at S c i + x) ≡ plane_at (level_of W S w h p u) (low_side h) c i x
   placed_new false i x a n m lt = by_lt x (low_side w)
@@ -119,10 +119,10 @@ module _ {k : Kernel} {R : Picture ℤ} {M K S w n b q f : ℕ} (u l : List ℤ)
   highs = min q K - n
 
   begun_row : (c : Bool) (x i : ℕ) → x < w → i < b - n → n + i < counts M K c → row c x i ≡ begun_at k R M K c (n + i) x
-  begun_row c x i h a m = lane-at S c n i x l ∙ r.begun c (n + i) x (omega arith) (omega arith) m h
+  begun_row c x i h a m = lane-at S c n i x l ∙ r.swept.begun c (n + i) x (omega arith) (omega arith) m h
 
   placed_row : (c : Bool) (x i : ℕ) → x < w → b - n ≤ i → i < q - n → n + i < counts M K c → row c x i ≡ plane_at R M c (n + i) x
-  placed_row c x i h a d m = lane-at S c n i x l ∙ r.placed c (n + i) x (omega arith) (omega arith) m h
+  placed_row c x i h a d m = lane-at S c n i x l ∙ r.swept.placed c (n + i) x (omega arith) (omega arith) m h
 
   rows_hold : (x : ℕ) → x < w → Holds k n (q - n) highs (λ i. R i x) (λ i. R (M + i) x) (row false x) (row true x)
   rows_hold x h = holds k M K n (q - n) highs (b - n) (λ i. R i x) (λ i. R (M + i) x) (row false x) (row true x)
@@ -169,7 +169,7 @@ module _ {k : Kernel} {R : Picture ℤ} {M K S w n b q f : ℕ} (u l : List ℤ)
 module _ {k : Kernel} {R : Picture ℤ} {M K S w n b q : ℕ} (u l : List ℤ) (le : K ≤ M) (fit : M ≤ K + 1) (nb : n < b) (bq : b ≤ q) (qm : q ≤ M) (ahead : min (n + 2) M ≤ b)
     (r : Rolled k R M K S w u n b q l) {e : ℕ} (pair : e ≡ min (n + 1) K - n) where
   window_row : (c : Bool) (x : ℕ) → x < w → (i : ℕ) → i < b - n → n + i < counts M K c → lane (at S c n) (2 * S) l x i ≡ begun_at k R M K c (n + i) x
-  window_row c x h i a m = lane-at S c n i x l ∙ r.begun c (n + i) x (omega arith) (omega arith) m h
+  window_row c x h i a m = lane-at S c n i x l ∙ r.swept.begun c (n + i) x (omega arith) (omega arith) m h
 
   ended_low : (x : ℕ) → x < w → ended_row false k (b - n) e (at S false n) S l x ≡ ended_at k R M K false n x
   ended_low x h =
@@ -243,11 +243,11 @@ module _ (w h : ℕ) (k : Kernel) (R : Picture ℤ) where
       (λ n b. ap (cell l) (sym (at_row S true n x)) ∙ here true n (omega arith) (omega arith) b) y i
     where
       here : (c : Bool) (n : ℕ) → n < low_side h → n < counts (low_side h) (h / 2) c → 2 * n + bit c < h → cell l (at S c n + x) ≡ row_pass (back k) w h (col_pass (back k) w h R) (2 * n + bit c) x
-      here c n d m b = r.done c n x d m j ∙ back_local k w _ _ (λ v a. ended_column c n v m a) x j ∙ sym (row_cell (back k) w h (2 * n + bit c) x (col_pass (back k) w h R) b j)
+      here c n d m b = r.swept.done c n x d m j ∙ back_local k w _ _ (λ v a. ended_column c n v m a) x j ∙ sym (row_cell (back k) w h (2 * n + bit c) x (col_pass (back k) w h R) b j)
 
 pub level_done : {W S w h q : ℕ} (k : Kernel) (p u l : List ℤ) → Rolled k (level_of W S w h p u) (low_side h) (h / 2) S w u (low_side h) (low_side h) q l → LevelBack k W S w h p u l
 level_done {W} {S} {w} {h} k p u l r = record {
-  size = r.size;
+  size = r.swept.size;
   inside = λ y x i j. level_cell w h k (level_of W S w h p u) r y x i j;
-  off = λ j no. r.off j (λ c i x a b o. no (2 * i + bit c) x (in_level w h k (level_of W S w h p u) c i a) b (o ∙ at_row S c i x));
+  off = λ j no. r.swept.off j (λ c i x a b o. no (2 * i + bit c) x (in_level w h k (level_of W S w h p u) c i a) b (o ∙ at_row S c i x));
 }

@@ -140,4 +140,4 @@ module _ {m n b q f g : ℕ} (h : n < m) (s : Ahead m n b q) (x : f ≡ begun_to
   end_ahead = rw x (omega arith)
 
   pub far_back : b < f → n ≤ b - 2
-  far_back l = s.far (omega (arith, ahead_more.order, ahead_more.top))
+  far_back l = s.far (omega (arith, x))

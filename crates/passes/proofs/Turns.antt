@@ -55,7 +55,7 @@ module _ (k : Kernel) (W S w h : ℕ) (p u : List ℤ) (y : Area W w h (length p
   module _ {l l₁ : List ℤ} (r : Rolled k R M K S w u n b q l) (t : PairsPlaced W S w h q g p l l₁) where
     after_place : Rolled k R M K S w u n b g l₁
     after_place = let a = ahead_more lt s x v in
-        place_more separate r s.near s.order (more_placed lt s x v) (placed_changed p u l l₁ y z.wide a.top r t) (placed_new p u l l₁ y z.wide a.top r t)
+        record { swept = place_more separate r.swept s.near s.order (more_placed lt s x v) (placed_changed p u l l₁ y z.wide a.top r t) (placed_new p u l l₁ y z.wide a.top r t) }
 
     pub begin_asks : {c : ℕ} → c ≡ min g K → SecondTakes k (at S false n) (at S true n) (2 * S) (g - n) (c - n) w (b - n) (f - n) l₁
     begin_asks rows_of_lem = let a = ahead_more lt s x v in rw rows_of_lem (rows_begin u l₁ le fit s.near (more_begun lt s x v) a.order a.top after_place nk lows highs)
@@ -67,8 +67,10 @@ module _ (k : Kernel) (W S w h : ℕ) (p u : List ℤ) (y : Area W w h (length p
 
       after_begin : Rolled k R M K S w u n f g l₂
       after_begin = let a = ahead_more lt s x v in let bf = more_begun lt s x v in let far = far_back lt s x v in let near = begin_ahead lt s x v in
-          begin_more separate after_place s.near bf a.order
-          (begun_changed u l₁ le fit s.near bf a.order a.top after_place far near nk t₂) (begun_new u l₁ le fit s.near bf a.order a.top after_place far near nk t₂)
+          record {
+            swept = begin_more separate after_place.swept s.near bf a.order
+                (begun_changed u l₁ le fit s.near bf a.order a.top after_place far near nk t₂) (begun_new u l₁ le fit s.near bf a.order a.top after_place far near nk t₂);
+          }
 
       some : n < f
       some = omega (arith, (ahead_more lt s x v).near)
@@ -88,4 +90,4 @@ module _ (k : Kernel) (W S w h : ℕ) (p u : List ℤ) (y : Area W w h (length p
 
         pub after_end : {l₃ : List ℤ} → PairBack k (f - n) e (at S false n) S w l₂ l₃ → Rolled k R M K S w u (n + 1) f g l₃
         after_end t₃ = let a = ahead_more lt s x v in let near = end_ahead lt s x v in
-            end_more separate after_begin some a.order (ended_changed u l₂ le fit some a.order a.top near after_begin pair t₃) (ended_new u l₂ le fit some a.order a.top near after_begin pair t₃)
+            record { swept = end_more separate after_begin.swept some a.order (ended_changed u l₂ le fit some a.order a.top near after_begin pair t₃) (ended_new u l₂ le fit some a.order a.top near after_begin pair t₃) }

@@ -1,4 +1,6 @@
 // Row and column passes over a plane, forward and back.
+#![tactic(auto)]
+
 ghost use Rattle.std.specs.Prelude.{◌≡◌, true, false, ℕ, ◌+◌, ◌*◌, ◌-◌, ◌^◌, ◌<◌, ◌≤◌, pos, length, get_or};
 ghost use Rattle.line.specs.Cells.{low_side};
 ghost use Rattle.line.specs.Inner.{AllWithin};

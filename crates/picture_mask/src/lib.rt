@@ -1,5 +1,7 @@
 // The mask of a region: the line mask walked over rows and columns, level by level. The first level's marks are placed, each where its
 // coefficient ends, so that its passes move nothing; the deeper levels go through working memory.
+#![tactic(auto)]
+
 ghost use Rattle.std.specs.Prelude.{◌≡◌, Bool, true, ◌-◌, ◌<◌, ◌≤◌, length};
 ghost use Rattle.line.specs.Cells.{low_side};
 ghost use Rattle.grid.specs.Picture.{Picture, row_pass, col_pass, walk, picture};

@@ -1,4 +1,6 @@
 // Reads the body of a codestream: the passes into a plane, in blocks of 16 coefficients.
+#![tactic(auto)]
+
 ghost use Rattle.std.specs.Prelude.{◌≡◌, ℕ, ◌+◌, ◌*◌, ◌/◌, ◌^◌, ◌<◌, ◌≤◌, pos, length, get_or};
 ghost use Rattle.line.specs.Cells.{cell, count};
 ghost use Rattle.bitplane.specs.Body.{class, one_plane, planes};
@@ -165,7 +167,7 @@ fn read_pass(
 }
 
 // Where a reading of a class ended, and how many of its planes were not wholly received.
-#[derive(Drop)]
+#[derive(Clone, Copy)]
 pub struct Reached {
     pub at: usize,
     pub missing: u64,
@@ -264,7 +266,7 @@ pub fn clear(plane: &mut [i32])
 }
 
 // Where the two parts of a body end, and how many planes of the unmarked were not wholly received.
-#[derive(Drop)]
+#[derive(Clone, Copy)]
 pub struct BodyEnd {
     pub marked: usize,
     pub end: usize,

@@ -1,11 +1,13 @@
 // Refusals: what an entry answers, and the tests that entries share.
+#![tactic(auto)]
+
 ghost use Rattle.std.specs.Prelude.{◌≡◌, ◌<◌, ◌≤◌, ◌^◌, leb, nat_abs};
 ghost use Rattle.refusal.specs.Numbers.{refusal_number, answer_number};
 ghost use Rattle.refusal.specs.Tests as tests;
 ghost use Rattle.refusal.specs.Parts.{part_size, part_start};
 
 // Refusals 1 to 17 and 19, in the order of their numbers (docs/FORMAT.md, "Refusals").
-#[derive(Drop)]
+#[derive(Clone, Copy)]
 pub enum Refusal {
     Kernel,
     Levels,
@@ -28,7 +30,7 @@ pub enum Refusal {
 }
 
 // What an entry answers that returns no number of its own.
-#[derive(Drop)]
+#[derive(Clone, Copy)]
 pub enum Answer {
     Done,
     Refused(Refusal),

@@ -1,4 +1,6 @@
 // The region that rectangles draw.
+#![tactic(auto)]
+
 ghost use Rattle.std.specs.Prelude.{◌≡◌, true, ◌+◌, ◌*◌, ◌%◌, ◌<◌, ◌≤◌, length};
 ghost use Rattle.grid.specs.Placed.{woven};
 ghost use Rattle.refusal.specs.Numbers.{answer_number, first, accepted};

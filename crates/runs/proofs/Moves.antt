@@ -83,13 +83,13 @@ module _ {add : Bool} {amount : ℕ → ℤ} {p : Taps} {n k : ℕ} {l l' : List
 
 -- a bound on a number holds of what is read back from its bits
 pub near_read : {b : ℕ} {z : ℤ} → mag z < 2 ^ hbits w32 → Within b z → Within b (to_z w32 (of_z w32 z))
-near_read f w = rw (to_z-of_z (sfits_of f)) w
+near_read f w = rw (to_z-of_z {w = w32} (sfits_of f)) w
 
 -- a turn moves the next number by an amount z, each of the two read back from its bits
 module _ {add : Bool} {amount : ℕ → ℤ} {s n k : ℕ} {l l' : List ℤ} {z : ℤ} (m : Moving add amount s n l l' k) (h : k < n)
     (f : mag (cell l' (s + k)) < 2 ^ hbits w32) (g : mag z < 2 ^ hbits w32) (e : z ≡ amount k) where
   read : moved add (to_z w32 (of_z w32 (cell l' (s + k)))) (to_z w32 (of_z w32 z)) ≡ moved add (cell l (s + k)) (amount k)
-  read = rw (to_z-of_z (sfits_of f), to_z-of_z (sfits_of g), m.so_far.above (s + k) (omega arith), e)
+  read = rw (to_z-of_z {w = w32} (sfits_of f), to_z-of_z {w = w32} (sfits_of g), m.so_far.above (s + k) (omega arith), e)
 
   pub move_fits : SFits w32 (moved add (cell l (s + k)) (amount k)) → SFits w32 (moved add (to_z w32 (of_z w32 (cell l' (s + k)))) (to_z w32 (of_z w32 z)))
   move_fits fit = rw read fit
@@ -99,5 +99,5 @@ module _ {add : Bool} {amount : ℕ → ℤ} {s n k : ℕ} {l l' : List ℤ} {z 
   moving_more o d = record {
     room = m.room;
     count = omega arith;
-    so_far = written_more (s + k) m.so_far (omega arith) (omega (arith, m.room)) (to_z-of_z (sfits_of o) ∙ d ∙ read);
+    so_far = written_more (s + k) m.so_far (omega arith) (omega (arith, m.room)) (to_z-of_z {w = w32} (sfits_of o) ∙ d ∙ read);
   }

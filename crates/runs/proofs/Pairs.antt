@@ -44,8 +44,8 @@ pairing_all {n = n} {k = k} m h = let e : n ≡ k = omega (arith, m.count) in rw
 module _ {f g : ℤ → ℤ → ℤ} {a b n k : ℕ} {l l' : List ℤ} (apart : Apart a b n) (m : Pairing f g a b n l l' k) (h : k < n) where
   pub seen_pair : mag (cell l' (a + k)) < 2 ^ hbits w32 → mag (cell l' (b + k)) < 2 ^ hbits w32 → Seen l l' k a × Seen l l' k b
   seen_pair p q = (
-    to_z-of_z (sfits_of p) ∙ m.so_far.off (a + k) (λ j j< e. omega arith) (λ j j< e. apart k j h (omega arith) e),
-    to_z-of_z (sfits_of q) ∙ m.so_far.off (b + k) (λ j j< e. apart j k (omega arith) h (omega arith)) (λ j j< e. omega arith),
+    to_z-of_z {w = w32} (sfits_of p) ∙ m.so_far.off (a + k) (λ j j< e. omega arith) (λ j j< e. apart k j h (omega arith) e),
+    to_z-of_z {w = w32} (sfits_of q) ∙ m.so_far.off (b + k) (λ j j< e. apart j k (omega arith) h (omega arith)) (λ j j< e. omega arith),
   )
 
   pub pairing_more : {v w : ℤ} → v ≡ f (cell l (a + k)) (cell l (b + k)) → w ≡ g (cell l (a + k)) (cell l (b + k))

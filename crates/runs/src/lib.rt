@@ -1,4 +1,6 @@
 // Loops over runs of numbers of one buffer, one for each formula: nothing is decided for each number.
+#![tactic(auto)]
+
 ghost use Rattle.std.specs.Prelude.{ℕ, ◌+◌, ◌^◌, ◌≤◌, ◌<◌, length};
 ghost use Rattle.std.specs.Int.{w32};
 ghost use Rattle.std.proofs.Common.{SFits};
@@ -10,7 +12,7 @@ ghost use Rattle.runs.specs.Steps.{moved_at, Apart, Room, Near, Stays};
 ghost use Rattle.runs.specs.declared.Step.TheVariants as step;
 
 // A lifting step: that of kernel 1, that of kernel 2, and the two of kernel 3, for its highs and for its lows.
-#[derive(Drop)]
+#[derive(Clone, Copy)]
 pub enum Step {
     SPlusP,
     TT,
@@ -19,7 +21,7 @@ pub enum Step {
 }
 
 // Where a run of numbers begins, and where the numbers that each of them is moved from begin.
-#[derive(Drop)]
+#[derive(Clone, Copy)]
 pub struct Taps {
     pub at: usize,
     pub here: usize,

@@ -1,6 +1,6 @@
 -- Bringing undone numbers into range, and dropping planes (docs/FORMAT.md, "Showing", "Truncation" and "Calls").
 --
---   inRange D z              == z brought into 0 .. 2^D − 1: below to 0, above to the top
+--   in_range D z             == z brought into 0 .. 2^D − 1: below to 0, above to the top
 --   truncated q m z          == z, where it is marked, else dropped q z
 --   show_tests D W H n m     == the refusals of showing, in order: 3, 4, 5
 --   truncate_tests q W H l p == the refusals of truncation, of the mask l and the plane p: 3, 4, 5, 9, 10

@@ -1,4 +1,6 @@
 // Entries on single samples: showing undone numbers, and dropping planes under a mask.
+#![tactic(auto)]
+
 ghost use Rattle.std.specs.Prelude.{◌≡◌, true, ◌*◌, ◌/◌, ◌≤◌, ◌<◌, ◌^◌, min, pos, nat_abs, length, get_or};
 ghost use Rattle.whole.specs.Within.{up};
 ghost use Rattle.line.specs.Mask.{marked};

@@ -1,9 +1,11 @@
 // What one pass over a plane finds, and what one pass over a mask.
+#![tactic(auto)]
+
 ghost use Rattle.std.specs.Prelude.{◌≡◌, max, nat_abs};
 ghost use Rattle.scan.specs.Inner.{sign_count, mark_count};
 ghost use Rattle.scan.specs.Scan as scans;
 
-#[derive(Drop)]
+#[derive(Clone, Copy)]
 pub struct Found {
     pub largest: u32,
     pub signs: usize,

@@ -1,4 +1,6 @@
 // A shot's setting and mask, which the writer and the reader of codestreams share.
+#![tactic(auto)]
+
 ghost use Rattle.std.specs.Prelude.{◌≡◌, length};
 ghost use Rattle.shot.specs.Inner.{Set, Drawable};
 ghost use Rattle.shot.specs.Shots.{mask_bytes};
@@ -7,7 +9,7 @@ use kernel::{Choice, Kernel};
 use refusal::Refusal;
 
 // The kernel of a setting, or the first refusal of the setting.
-#[derive(Drop)]
+#[derive(Clone, Copy)]
 pub enum Setting {
     Taken(Kernel),
     Refused(Refusal),

@@ -1,4 +1,6 @@
 // Shows codestreams, at each of their levels.
+#![tactic(auto)]
+
 ghost use Rattle.std.specs.Prelude.{◌≡◌, ◌&&◌, ◌≤◌, pos, length};
 ghost use Rattle.refusal.specs.Numbers.{first, accepted};
 ghost use Rattle.refusal.specs.Tests.{bad_level};

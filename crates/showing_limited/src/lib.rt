@@ -1,4 +1,6 @@
 // Shows codestreams of small pictures in working memory of its own.
+#![tactic(auto)]
+
 ghost use Rattle.std.specs.Prelude.{◌≡◌, length};
 ghost use Rattle.codestream.specs.Reading.{read_numbers, shot_read};
 ghost use Rattle.header_reader.specs.Answers.{header_for};

@@ -1,90 +1,74 @@
 // Reads a stream of a picture of at most 64 by 64 samples from standard input, and prints its numbers and its shown rows, or its refusal.
-ghost use Rattle.std.specs.Prelude.{◌+◌, ◌*◌, ◌≤◌, length};
+#![tactic(auto)]
 
 use decoder::{Body, Outcome};
 use header_reader::Header;
-use libc::{STDIN_FILENO, STDOUT_FILENO};
+use refusal::refusal_number;
+use showing_limited::show_limited;
+use std::io::Read;
+use std::{fmt, io};
 
-fn text(bytes: &[u8]) {
-    io::write_all(STDOUT_FILENO, bytes);
+// More bytes than these are refused before any other test.
+const MOST: usize = 65536;
+
+// Samples of a row, with a space between two.
+#[derive(Drop)]
+struct Row<'a>(&'a [u16]);
+
+impl fmt::Display for Row<'_> {
+    fn fmt<W: fmt::Write>(&self, f: &mut fmt::Formatter<W>) -> fmt::Result {
+        let mut gap = "";
+        for x in self.0 {
+            write!(f, "{gap}{x}")?;
+            gap = " ";
+        }
+        Ok(())
+    }
 }
 
-fn number(n: u64) {
-    io::print_decimal(STDOUT_FILENO, n);
-}
-
-fn spaced(n: u64) {
-    text(b" ");
-    number(n);
-}
-
-fn wide(x: u16) -> u64 {
-    x as u64
-}
-
-fn refused(n: u64) {
-    text(b"refused");
-    spaced(n);
-    text(b"\n");
+fn input(rt: &(impl Input + AllocGlobal)) -> io::Result<Vec<u8>> {
+    let mut bytes = Vec::new(rt.alloc());
+    rt.reader().take(MOST as u64 + 1).read_to_end(&mut bytes)?;
+    Ok(bytes)
 }
 
 // Kernel, J, W, H, marks, and 1 if the marked part is whole.
-fn numbers(header: Header, body: Body) {
-    number(header.kernel as u64);
-    spaced(header.levels as u64);
-    spaced(header.width as u64);
-    spaced(header.height as u64);
-    spaced(body.marks as u64);
-    if body.whole {
-        text(b" 1\n");
-    } else {
-        text(b" 0\n");
-    }
+fn print_numbers(rt: &impl Print, header: &Header, body: &Body) -> io::Result<()> {
+    let kernel = header.kernel;
+    let levels = header.levels;
+    let width = header.width;
+    let height = header.height;
+    let marks = body.marks;
+    let whole = u8::from(body.whole);
+    println!(rt; "{kernel} {levels} {width} {height} {marks} {whole}")
 }
 
-// The row of w samples that begins at a place.
-fn row(shown: &[u16], start: usize, w: usize)
-    requires { start + w ≤ length shown.now }
-{
-    for x in 0..w {
-        if 0 < x {
-            text(b" ");
-        }
-        number(wide(shown[start + x]));
+fn print_rows(rt: &impl Print, shown: &[u16], w: usize, h: usize) -> io::Result<()> {
+    if w == 0 {
+        return Ok(());
     }
-    text(b"\n");
+    for row in shown.chunks(w).take(h) {
+        println!(rt; "{}", Row(row))?;
+    }
+    Ok(())
 }
 
-fn rows(shown: &[u16], w: usize, h: usize)
-    requires { w * h ≤ length shown.now }
-{
-    for y in 0..h {
-        row(shown, y * w, w);
-    }
-}
-
-fn show(stream: &[u8]) {
+fn print_shown(rt: &impl Print, stream: &[u8]) -> io::Result<()> {
     let mut shown = [0u16; 4096];
-    let reading = showing_limited::show_limited(stream, &mut shown);
-    let outcome = reading.outcome;
-    match outcome {
-        Outcome::Refused(refusal) => refused(refusal::refusal_number(refusal)),
+    let reading = show_limited(stream, &mut shown);
+    match reading.outcome {
+        Outcome::Refused(refusal) => println!(rt; "refused {}", refusal_number(refusal)),
         Outcome::Done(body) => {
-            let header = reading.header;
-            numbers(header, body);
-            rows(&shown, header.width, header.height);
+            print_numbers(rt, &reading.header, &body)?;
+            print_rows(rt, &shown, reading.header.width, reading.header.height)
         }
     }
 }
 
-// More bytes than the buffer holds are refused before any other test.
-fn main() {
-    let mut buffer = io::large_buffer();
-    let n = io::read_full(STDIN_FILENO, &mut buffer);
-    let mut further = [0u8; 1];
-    if 0 < io::read_full(STDIN_FILENO, &mut further) {
-        refused(5);
-        return;
+fn main(rt: HostRuntime) -> io::Result<()> {
+    let stream = input(&rt)?;
+    if MOST < stream.len() {
+        return println!(rt; "refused 5");
     }
-    show(&buffer[..n]);
+    print_shown(&rt, &stream)
 }

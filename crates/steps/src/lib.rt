@@ -1,4 +1,6 @@
 // The formulas of the line transforms on single numbers, in sums of 32 bits: what a formula asks of its numbers is a bound under which they fit.
+#![tactic(auto)]
+
 ghost use Rattle.std.specs.Prelude.{◌≡◌, ◌*◌, ◌^◌};
 ghost use Rattle.std.specs.Int.{w32};
 ghost use Rattle.std.proofs.Common.{SFits};

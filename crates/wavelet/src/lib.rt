@@ -1,4 +1,6 @@
 // The wavelet transform of a picture and its way back: rows and columns, level by level.
+#![tactic(auto)]
+
 ghost use Rattle.std.specs.Prelude.{◌≡◌, ◌-◌, ◌+◌, ◌*◌, ◌/◌, ◌%◌, ◌^◌, ◌<◌, ◌≤◌, pos, length, true};
 ghost use Rattle.line.specs.Transform as line;
 ghost use Rattle.line.specs.Cells.{low_side};

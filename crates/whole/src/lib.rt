@@ -1,4 +1,6 @@
 // Floor division of signed numbers by 2, 4 and 8, from the language's division of unsigned ones; magnitudes; the smaller and the larger of two numbers.
+#![tactic(auto)]
+
 ghost use Rattle.std.specs.Prelude.{◌≡◌, min, max, nat_abs};
 ghost use Rattle.whole.specs.Floor.{floor_div};
 

@@ -1,1 +1,3 @@
+#![tactic(auto)]
+
 // The worked examples of docs/FORMAT.md that are proved: a table, and one theorem.

@@ -1,4 +1,6 @@
 // Writes the body of a codestream: bits into bytes, up to 32 at once, and the passes over a plane, in blocks of 16 coefficients.
+#![tactic(auto)]
+
 ghost use Rattle.std.specs.Prelude.{◌≡◌, true, ℕ, ◌+◌, ◌-◌, ◌*◌, ◌/◌, ◌%◌, ◌^◌, ◌<◌, ◌≤◌, nat_abs, length};
 ghost use Rattle.line.specs.Cells.{cell, count};
 ghost use Rattle.bitplane.specs.Body.{class, one_plane, planes, code, pass_bits, body};
@@ -131,7 +133,7 @@ fn idle(plane: &[i32], mask: &[u8], c: u8, t: u64, i: usize, members: usize) -> 
 }
 
 // The digits that a block gives, as a number, and how many they are.
-#[derive(Drop)]
+#[derive(Clone, Copy)]
 struct Gathered {
     number: u64,
     count: u64,

@@ -1,0 +1,11 @@
+-- `header::put_rectangles` writes the numbers of the rectangles. Assumes nothing.
+use Prim.Native.Nat.{◌-◌}
+use lib.ListN.{length}
+use Rattle.header.proofs.Writing.{Listed}
+use Rattle.header.proofs.put_rectangles.Given as goal
+
+abbrev pub invariant-loop-i : goal.invariant-loop-i
+invariant-loop-i l = Listed l.numbers l.i l.initial.out l.out
+
+abbrev pub decreases-loop-i : goal.decreases-loop-i
+decreases-loop-i l = length l.numbers - l.i

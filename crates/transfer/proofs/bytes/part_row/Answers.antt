@@ -1,0 +1,7 @@
+-- `transfer::bytes::part_row` parts a row of bytes in place. Assumes nothing.
+use native.Mathlib.Omega.{arith}
+use Rattle.transfer.proofs.Parting.{part_copied}
+use Rattle.transfer.proofs.bytes.part_row.Goals as goal
+
+pub returns : goal.returns
+returns c = part_copied (omega arith) c.pair_up.ensures c.firsts.ensures c.seconds.ensures
