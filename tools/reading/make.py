@@ -205,7 +205,10 @@ class Reader:
             raise Failure(f'{crate}::{function} has a requires')
         for result in re.findall(r'\) -> ([A-Z]\w+)\n', found[0]):
             self.type(crate, result)
-        promised = ' '.join(re.findall(r'ensures(?: \w+)? \{(.*)\}$', found[0], re.M))
+        clauses = re.findall(r'^\s+ensures(?: \w+)? \{(.*)\}$', found[0], re.M)
+        if len(clauses) != len(re.findall(r'^\s+ensures\b', found[0], re.M)):
+            raise Failure(f'{crate}::{function} has a clause that goes over several lines')
+        promised = ' '.join(clauses)
         return path, text[:found.start()].count('\n') + 1, self.follow(promised, *uses(text))
 
     def promises(self):

@@ -127,10 +127,7 @@ pub fn print() {
     println!("## Base\n");
     let programs = ["BODY_TIMES_BASE", "BODY_TIMES_NOW"].map(env::var_os);
     let [Some(base), Some(now)] = programs else {
-        println!(
-            "Not run: the base's commit is not in the history at hand, as in a shallow clone, and \
-             BASE_LIBRARY names no library.\n"
-        );
+        println!("Not run: BASE_LIBRARY names no library.\n");
         return;
     };
     print_introduction();
