@@ -7,7 +7,7 @@
 // The coefficients are those of the outside 5/3. tools/outside_53/make.py makes the input.
 #![tactic(auto)]
 
-ghost use Rattle.std.specs.Prelude.{◌+◌, ◌≤◌, ◌<◌, length, IfOk, IfSome};
+ghost use Rattle.std.specs.Prelude.{◌+◌, ◌*◌, ◌≤◌, ◌<◌, length, IfOk, IfSome};
 
 use refusal::answer_number;
 use std::alloc::{AllocError, Global};
@@ -36,7 +36,7 @@ fn read_samples(alloc: Global, bytes: &[u8]) -> Result<Vec<u16>, AllocError> {
 // How many coefficients of the plane are not those of the bytes.
 fn differences(plane: &[i32], bytes: &[u8]) -> usize
     ensures of_plane { result ≤ length plane.now }
-    ensures of_bytes { result ≤ length bytes.now }
+    ensures of_bytes { 2 * result ≤ length bytes.now }
 {
     let (pairs, _) = bytes.as_chunks::<2>();
     plane
@@ -63,7 +63,7 @@ fn compare(
     samples: &[u8],
     coefficients: &[u8],
 ) -> Result<Found, AllocError>
-    ensures { IfOk result (λ found. found.differ ≤ length coefficients.now) }
+    ensures { IfOk result (λ found. 2 * found.differ ≤ length coefficients.now) }
 {
     let samples = read_samples(alloc, samples)?;
     let mut plane = vec![in alloc; 0i32; samples.len()]?;
