@@ -3,9 +3,9 @@
 --
 --   Demand2 == undoing the transform gives back the picture, transforming the undone numbers gives back the plane, and reading a whole stream returns the plane
 --              that was written:
---     picture-back, plane-back
+--     picture_back, plane_back
 --              for every kernel, level count and size, and all whole numbers
---     stream-back
+--     stream_back
 --              for every accepted call of the writer, and buffers of the plane's size
 --
 --   Exact l n m c == what the stream l cut to c bytes has in common with l, read into buffers of n coefficients and m mask bytes:
