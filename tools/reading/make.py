@@ -8,7 +8,8 @@ From the `ensures` of every public entry and from the records of the theorems th
 of crates/*/specs. What each definition says is its line in the glossary at the head of its file. Refused, with a message:
 an entry that has a `requires`; a definition to believe outside specs/, without a line in its glossary, or in front of one that
 it uses; a file of specs/ that mixes definitions to believe with others; one whose first comment names no section of
-docs/FORMAT.md; a name of the toolchain that KIT does not explain.
+docs/FORMAT.md; a name of the toolchain that KIT does not explain; a glossary's line that goes on at another column; an entry's
+clause that goes over several lines.
 """
 import os
 import re
@@ -118,6 +119,8 @@ class Module:
                 said[name] = [entry[1], entry[3]]
             elif name and re.match('--' + ' ' * (column - 2) + r'\S', line):
                 said[name][1] += ' ' + line.strip('- ')
+            elif name and re.match('--' + ' ' * (column - 4) + r' {0,4}\S', line):
+                raise Failure(f'{self.path}: the line of {name} goes on at another column than it began')
             else:
                 name = None
         return said
@@ -140,10 +143,13 @@ class Reader:
         """The definitions that a text names, and all that they depend on."""
         found = []
         for word in words(text):
-            alias, _, rest = word.partition('.')
-            if rest and alias in aliases:
-                found.append(self.name(aliases[alias], rest))
-            elif local and word in local.definitions:
+            head, _, rest = word.partition('.')
+            if rest and head in aliases:
+                found.append(self.name(aliases[head], rest))
+                continue
+            # a field of what a definition without arguments gives
+            word = head or word
+            if local and word in local.definitions:
                 found.append(self.define(local.definitions[word]))
             elif word in names:
                 found.append(self.name(names[word], word))
@@ -185,13 +191,13 @@ class Reader:
         text = read(path)
         if other := re.search(rf'^use (\w+)::{name};', text, re.M):
             return self.type(other[1], name)
-        found = re.search(rf'((?:^//[^\n]*\n)*)(?:^#\[[^\n]*\n)*^pub (?:enum|struct) {name} \{{(.*?)^\}}', text, re.M | re.S)
+        found = re.search(rf'((?:^//[^\n]*\n)*)(?:^#\[[^\n]*\n)*(^pub (?:enum|struct) {name} \{{(.*?)^\}})', text, re.M | re.S)
         if not found or (crate, name) in self.types:
             return
-        line = text[:found.end(1)].count('\n') + 1
+        line = text[:found.start(2)].count('\n') + 1
         said = ' '.join(l.strip('/ ') for l in found[1].split('\n')).strip()
-        self.types[crate, name] = Type(path, line, said, found[0].count('\n') - found[1].count('\n') + 1)
-        for held in re.findall(r'\b[A-Z]\w+', found[2]):
+        self.types[crate, name] = Type(path, line, said, found[2].count('\n') + 1)
+        for held in re.findall(r'\b[A-Z]\w+', found[3]):
             self.type(crate, held)
 
     def entry(self, crate, function):

@@ -10,12 +10,13 @@
 ghost use Rattle.std.specs.Prelude.{◌+◌, ◌*◌, ◌≤◌, ◌<◌, length, IfOk, IfSome};
 
 use refusal::answer_number;
-use std::alloc::{AllocError, Global};
 use std::io;
 use std::io::Read;
 
 // More bytes than these are not looked at.
 const MOST: usize = 65536;
+// The samples of any picture that the input can hold.
+const ROOM: usize = 16384;
 
 // The number of samples of a picture.
 fn area(w: u8, h: u8) -> usize
@@ -24,13 +25,11 @@ fn area(w: u8, h: u8) -> usize
     usize::from(w) * usize::from(h)
 }
 
-fn read_samples(alloc: Global, bytes: &[u8]) -> Result<Vec<u16>, AllocError> {
-    let mut samples = Vec::new(alloc);
+fn read_samples(bytes: &[u8], samples: &mut [u16]) {
     let (pairs, _) = bytes.as_chunks::<2>();
-    for pair in pairs {
-        samples.push(u16::from_be_bytes(*pair))?;
+    for (sample, pair) in samples.iter_mut().zip(pairs) {
+        *sample = u16::from_be_bytes(*pair);
     }
-    Ok(samples)
 }
 
 // How many coefficients of the plane are not those of the bytes.
@@ -53,41 +52,42 @@ struct Found {
     differ: usize,
 }
 
-// Transforms a picture by kernel 3 and compares its plane with the coefficients.
+// Transforms a picture of so many samples by kernel 3 and compares its plane with the coefficients.
 fn compare(
-    alloc: Global,
-    w: u8,
-    h: u8,
-    levels: u8,
-    depth: u8,
+    w: usize,
+    h: usize,
+    levels: usize,
+    depth: usize,
+    cells: usize,
     samples: &[u8],
     coefficients: &[u8],
-) -> Result<Found, AllocError>
-    ensures { IfOk result (λ found. 2 * found.differ ≤ length coefficients.now) }
+) -> Found
+    requires { cells ≤ 16384 }
+    ensures of_plane { result.differ ≤ cells }
+    ensures of_bytes { 2 * result.differ ≤ length coefficients.now }
 {
-    let samples = read_samples(alloc, samples)?;
-    let mut plane = vec![in alloc; 0i32; samples.len()]?;
+    let mut picture = [0u16; ROOM];
+    let mut plane = [0i32; ROOM];
+    read_samples(samples, &mut picture[..cells]);
     let answer = wavelet::transform(
         3,
-        usize::from(levels),
-        usize::from(depth),
-        usize::from(w),
-        usize::from(h),
-        &samples,
-        &mut plane,
+        levels,
+        depth,
+        w,
+        h,
+        &picture[..cells],
+        &mut plane[..cells],
     );
-    Ok(Found {
+    Found {
         refusal: answer_number(answer),
-        differ: differences(&plane, coefficients),
-    })
+        differ: differences(&plane[..cells], coefficients),
+    }
 }
 
 // Compares the picture at the start of the bytes and prints its line. The number of coefficients that differ, and the bytes
 // behind the picture; `None` where it could not be compared.
-fn take<'a>(
-    rt: &(impl Print + AllocGlobal),
-    bytes: &'a [u8],
-) -> io::Result<Option<(usize, &'a [u8])>>
+fn take<'a>(rt: &impl Print, bytes: &'a [u8]) -> io::Result<Option<(usize, &'a [u8])>>
+    requires { length bytes.now ≤ 65536 }
     ensures { IfOk result (λ found. IfSome found (λ taken. taken.0 + length taken.1.now < length bytes.now)) }
 {
     let Some((head, rest)) = bytes.split_first_chunk::<4>() else {
@@ -97,16 +97,24 @@ fn take<'a>(
     let [w, h, levels, depth] = *head;
     let s = if levels == 1 { "" } else { "s" };
     print!(rt; "{w} x {h}, {levels} level{s}: ")?;
-    let size = 2 * area(w, h);
-    let Some((samples, rest)) = rest.split_at_checked(size) else {
+    let cells = area(w, h);
+    let Some((samples, rest)) = rest.split_at_checked(2 * cells) else {
         println!(rt; "the input is cut")?;
         return Ok(None);
     };
-    let Some((coefficients, rest)) = rest.split_at_checked(size) else {
+    let Some((coefficients, rest)) = rest.split_at_checked(2 * cells) else {
         println!(rt; "the input is cut")?;
         return Ok(None);
     };
-    let found = compare(rt.alloc(), w, h, levels, depth, samples, coefficients)?;
+    let found = compare(
+        usize::from(w),
+        usize::from(h),
+        usize::from(levels),
+        usize::from(depth),
+        cells,
+        samples,
+        coefficients,
+    );
     if found.refusal != 0 {
         println!(rt; "refused {}", found.refusal)?;
         return Ok(None);
@@ -120,7 +128,9 @@ fn take<'a>(
 }
 
 // Compares picture after picture, and stops at one that could not be compared.
-fn take_all(rt: &(impl Print + AllocGlobal), input: &[u8]) -> io::Result<()> {
+fn take_all(rt: &impl Print, input: &[u8]) -> io::Result<()>
+    requires { length input.now ≤ 65536 }
+{
     let mut rest = input;
     let mut pictures = 0u64;
     let mut differ = 0u64;
@@ -135,11 +145,27 @@ fn take_all(rt: &(impl Print + AllocGlobal), input: &[u8]) -> io::Result<()> {
     println!(rt; "{pictures} pictures, {differ} coefficients differ")
 }
 
+// Fills the buffer from standard input, and tells how many bytes it then has: fewer than fit where the input ends.
+fn read_input(rt: &impl Input, buffer: &mut [u8]) -> io::Result<usize>
+    ensures { IfOk result (λ n. n ≤ length buffer.old) }
+{
+    let mut reader = rt.reader();
+    let mut n = 0usize;
+    for _ in 0..u64::MAX {
+        let found = reader.read(&mut buffer[n..])?;
+        if found == 0 {
+            break;
+        }
+        n += found;
+    }
+    Ok(n)
+}
+
 fn main(rt: HostRuntime) -> io::Result<()> {
-    let mut input = Vec::new(rt.alloc());
-    rt.reader().take(MOST as u64 + 1).read_to_end(&mut input)?;
-    if MOST < input.len() {
+    let mut buffer = [0u8; MOST + 1];
+    let n = read_input(&rt, &mut buffer)?;
+    if MOST < n {
         return println!(rt; "more than {MOST} bytes of input");
     }
-    take_all(&rt, &input)
+    take_all(&rt, &buffer[..n])
 }

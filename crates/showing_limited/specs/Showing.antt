@@ -1,7 +1,7 @@
 -- Showing a stream in working memory for pictures to 64 by 64 (docs/FORMAT.md, "The program showshot").
 --
 --   room_for l n       == the length of the buffers that the stream l is read into, where n samples can be shown: W · H, if the header is
---                        not refused with 12 and the picture is within 64 by 64 and n, else 0
+--                         not refused with 12 and the picture is within 64 by 64 and n, else 0
 --   shown_after l held == what the lent buffer then holds: the shown samples in front and behind them what it held, under a refusal what it held
 --
 -- Assumes nothing: these are definitions.

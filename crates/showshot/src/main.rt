@@ -1,6 +1,8 @@
 // Reads a stream of a picture of at most 64 by 64 samples from standard input, and prints its numbers and its shown rows, or its refusal.
 #![tactic(auto)]
 
+ghost use Rattle.std.specs.Prelude.{◌*◌, ◌≤◌, length, IfOk};
+
 use decoder::{Body, Outcome};
 use header_reader::Header;
 use refusal::refusal_number;
@@ -26,10 +28,20 @@ impl fmt::Display for Row<'_> {
     }
 }
 
-fn input(rt: &(impl Input + AllocGlobal)) -> io::Result<Vec<u8>> {
-    let mut bytes = Vec::new(rt.alloc());
-    rt.reader().take(MOST as u64 + 1).read_to_end(&mut bytes)?;
-    Ok(bytes)
+// Fills the buffer from standard input, and tells how many bytes it then has: fewer than fit where the input ends.
+fn read_input(rt: &impl Input, buffer: &mut [u8]) -> io::Result<usize>
+    ensures { IfOk result (λ n. n ≤ length buffer.old) }
+{
+    let mut reader = rt.reader();
+    let mut n = 0usize;
+    for _ in 0..u64::MAX {
+        let found = reader.read(&mut buffer[n..])?;
+        if found == 0 {
+            break;
+        }
+        n += found;
+    }
+    Ok(n)
 }
 
 // Kernel, J, W, H, marks, and 1 if the marked part is whole.
@@ -43,12 +55,12 @@ fn print_numbers(rt: &impl Print, header: &Header, body: &Body) -> io::Result<()
     println!(rt; "{kernel} {levels} {width} {height} {marks} {whole}")
 }
 
-fn print_rows(rt: &impl Print, shown: &[u16], w: usize, h: usize) -> io::Result<()> {
-    if w == 0 {
-        return Ok(());
-    }
-    for row in shown.chunks(w).take(h) {
-        println!(rt; "{}", Row(row))?;
+fn print_rows(rt: &impl Print, shown: &[u16], w: usize, h: usize) -> io::Result<()>
+    requires { w * h ≤ length shown.now }
+{
+    for y in 0..h {
+        let start = y * w;
+        println!(rt; "{}", Row(&shown[start..start + w]))?;
     }
     Ok(())
 }
@@ -66,9 +78,10 @@ fn print_shown(rt: &impl Print, stream: &[u8]) -> io::Result<()> {
 }
 
 fn main(rt: HostRuntime) -> io::Result<()> {
-    let stream = input(&rt)?;
-    if MOST < stream.len() {
+    let mut buffer = [0u8; MOST + 1];
+    let n = read_input(&rt, &mut buffer)?;
+    if MOST < n {
         return println!(rt; "refused 5");
     }
-    print_shown(&rt, &stream)
+    print_shown(&rt, &buffer[..n])
 }

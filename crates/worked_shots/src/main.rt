@@ -95,17 +95,35 @@ fn print_mask(rt: &impl Print, kernel: usize) -> io::Result<()> {
     println!(rt; "{}", Row(&mask))
 }
 
-// The header's fields and the numbers of one rectangle, each as long as it is, and a body of two bytes.
-fn print_fields(rt: &impl Print, stream: &[u8]) -> io::Result<()> {
-    let mut rest = stream;
-    for n in [4usize, 1, 1, 1, 1, 2, 2, 1, 1, 2, 2, 2, 2, 2] {
-        let Some((field, behind)) = rest.split_at_checked(n) else {
-            break;
-        };
-        print!(rt; " {}", Hex(field))?;
-        rest = behind;
-    }
-    println!(rt; "")
+// The length field, version, kernel, J, D, W, H, the number of rectangles, and T.
+fn print_header_fields(rt: &impl Print, stream: &[u8; 40]) -> io::Result<()> {
+    print!(rt;
+        " {} {} {} {} {}",
+        Hex(&stream[..4]),
+        Hex(&stream[4..5]),
+        Hex(&stream[5..6]),
+        Hex(&stream[6..7]),
+        Hex(&stream[7..8])
+    )?;
+    print!(rt;
+        " {} {} {} {}",
+        Hex(&stream[8..10]),
+        Hex(&stream[10..12]),
+        Hex(&stream[12..13]),
+        Hex(&stream[13..14])
+    )
+}
+
+// The numbers of one rectangle, and a body of two bytes.
+fn print_later_fields(rt: &impl Print, stream: &[u8; 40]) -> io::Result<()> {
+    print!(rt;
+        " {} {} {} {}",
+        Hex(&stream[14..16]),
+        Hex(&stream[16..18]),
+        Hex(&stream[18..20]),
+        Hex(&stream[20..22])
+    )?;
+    println!(rt; " {}", Hex(&stream[22..24]))
 }
 
 // Prints what the writer answers, and gives the total length, 0 where nothing was written.
@@ -156,7 +174,8 @@ fn write_picture(rt: &impl Print, stream: &mut [u8]) -> io::Result<usize> {
 fn print_long_stream(rt: &impl Print) -> io::Result<()> {
     let mut stream = [0xEEu8; 40];
     let total = write_picture(rt, &mut stream)?;
-    print_fields(rt, &stream)?;
+    print_header_fields(rt, &stream)?;
+    print_later_fields(rt, &stream)?;
     print_untouched(rt, &stream, total)
 }
 
