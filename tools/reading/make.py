@@ -8,8 +8,8 @@ From the `ensures` of every public entry and from the records of the theorems th
 of crates/*/specs. What each definition says is its line in the glossary at the head of its file. Refused, with a message:
 an entry that has a `requires`; a definition to believe outside specs/, without a line in its glossary, or in front of one that
 it uses; a file of specs/ that mixes definitions to believe with others; one whose first comment names no section of
-docs/FORMAT.md; a name of the toolchain that KIT does not explain; a glossary's line that goes on at another column; an entry's
-clause that goes over several lines.
+docs/FORMAT.md; a name of the toolchain that KIT does not explain; a glossary's line that goes on one or two columns off; an
+entry's clause that goes over several lines.
 """
 import os
 import re
