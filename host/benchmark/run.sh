@@ -3,7 +3,7 @@
 # with the earlier passes and the measuring of the stack, runs them and writes
 # docs/BENCHMARKS.md. Arguments name sections of the benchmark: these alone are then
 # run and printed, and nothing is written. If INTERFACE_LIBRARY, COMPARISON_LIBRARY or
-# BASE_LIBRARY names a library, by its whole path, that one is taken.
+# BASE_LIBRARY names a library, a file lib*.a by its whole path, that one is taken.
 set -eu
 
 root=$(cd "$(dirname "$0")/../.." && pwd)

@@ -86,7 +86,10 @@ fn print_row(share: &str, size: Size, bits: usize, [base, now]: [Times; 2]) {
 
 /// Whether the largest ratio of writing, and that of reading, is within the limit.
 fn print_verdict(largest: [f64; 2]) {
-    println!("\nAsked is now : base of at most {LIMIT} at {LIMITED}. The largest there:\n");
+    println!(
+        "\nBeside the library at commit 7a85ab7, whose writer and reader take one coefficient at a time, \
+         now : base of at most {LIMIT} at {LIMITED} is asked. The largest there, held to that whatever the base is:\n"
+    );
     for (call, ratio) in ["write", "read"].into_iter().zip(largest) {
         let verdict = if ratio <= LIMIT { "kept" } else { "not kept" };
         println!("- {call}: {ratio:.3}, {verdict}");
