@@ -13,13 +13,6 @@ pub enum Kernel {
     FiveThree,
 }
 
-// What `Kernel::new` answers.
-#[derive(Clone, Copy)]
-pub enum Choice {
-    Taken(Kernel),
-    Refused,
-}
-
 impl Kernel {
     // How many kernels there are: their numbers are below it.
     pub const COUNT: usize = 4;
@@ -27,18 +20,18 @@ impl Kernel {
     // The reach of each kernel, by its number.
     pub const REACH: [usize; 4] = [0, 1, 2, 1];
 
-    // The kernel of a number, any number.
-    pub fn new(number: usize) -> Choice
+    // The kernel of a number, any number; `None` where there is none.
+    pub fn new(number: usize) -> Option<Kernel>
         ensures { result ≡ kernel_of number }
     {
         if number >= Self::COUNT {
-            return Choice::Refused;
+            return None;
         }
         match number {
-            0 => Choice::Taken(Kernel::S),
-            1 => Choice::Taken(Kernel::SPlusP),
-            2 => Choice::Taken(Kernel::TT),
-            _ => Choice::Taken(Kernel::FiveThree),
+            0 => Some(Kernel::S),
+            1 => Some(Kernel::SPlusP),
+            2 => Some(Kernel::TT),
+            _ => Some(Kernel::FiveThree),
         }
     }
 

@@ -1,12 +1,12 @@
 // Refusals: what an entry answers, and the tests that entries share.
 #![tactic(auto)]
 
-ghost use Rattle.std.specs.Prelude.{◌≡◌, ◌<◌, ◌≤◌, ◌^◌, leb, nat_abs};
-ghost use Rattle.refusal.specs.Numbers.{refusal_number, answer_number};
+ghost use Rattle.std.specs.Prelude.{◌≡◌, true, false, ◌<◌, ◌≤◌, ◌^◌, leb, nat_abs, MatchResult};
+ghost use Rattle.refusal.specs.Numbers.{refusal_number, answer_number, needed_length};
 ghost use Rattle.refusal.specs.Tests as tests;
 ghost use Rattle.refusal.specs.Parts.{part_size, part_start};
 
-// Refusals 1 to 17 and 19, in the order of their numbers (docs/FORMAT.md, "Refusals").
+// Refusals 1 to 17 and 19, in the order of their numbers (docs/FORMAT.md, "Refusals"). 11 has the needed length.
 #[derive(Clone, Copy)]
 pub enum Refusal {
     Kernel,
@@ -19,7 +19,7 @@ pub enum Refusal {
     Rectangle,
     Mark,
     Magnitude,
-    Room,
+    Room(usize),
     Header,
     Version,
     Planes,
@@ -27,13 +27,6 @@ pub enum Refusal {
     Filling,
     Level,
     NoSample,
-}
-
-// What an entry answers that returns no number of its own.
-#[derive(Clone, Copy)]
-pub enum Answer {
-    Done,
-    Refused(Refusal),
 }
 
 // The number of a refusal.
@@ -51,7 +44,7 @@ pub fn refusal_number(refusal: Refusal) -> u64
         Refusal::Rectangle => 8,
         Refusal::Mark => 9,
         Refusal::Magnitude => 10,
-        Refusal::Room => 11,
+        Refusal::Room(_) => 11,
         Refusal::Header => 12,
         Refusal::Version => 13,
         Refusal::Planes => 14,
@@ -63,13 +56,30 @@ pub fn refusal_number(refusal: Refusal) -> u64
 }
 
 // 0, or the number of the refusal.
-pub fn answer_number(answer: Answer) -> u64
-    ensures { result ≡ answer_number answer }
+pub fn answer_number<T>(answer: &Result<T, Refusal>) -> u64
+    ensures { result ≡ answer_number answer.now }
 {
     match answer {
-        Answer::Done => 0,
-        Answer::Refused(refusal) => refusal_number(refusal),
+        Ok(_) => 0,
+        Err(refusal) => refusal_number(*refusal),
     }
+}
+
+// The needed length of refusal 11, 0 of another.
+pub fn needed_length(refusal: Refusal) -> usize
+    ensures { result ≡ needed_length refusal }
+{
+    match refusal {
+        Refusal::Room(needed) => needed,
+        _ => 0,
+    }
+}
+
+// A refusal where its test holds, so that an entry reads as its tests in their order.
+pub fn refuse(bad: bool, refusal: Refusal) -> Result<(), Refusal>
+    ensures { MatchResult result (λ _. bad ≡ false) (λ e. (bad ≡ true) × (e ≡ refusal)) }
+{
+    if bad { Err(refusal) } else { Ok(()) }
 }
 
 pub fn bad_levels(levels: usize) -> bool
