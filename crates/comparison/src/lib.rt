@@ -7,8 +7,8 @@ ghost use Rattle.refusal.specs.Numbers.{answer_number, first, accepted};
 ghost use Rattle.refusal.specs.Results.{Result};
 ghost use Rattle.comparison.specs.Earlier.{bad_sides, coefficient, undone_number, transform_tests, undo_tests};
 
-use kernel::{Choice, Kernel};
-use refusal::{Answer, Refusal};
+use kernel::Kernel;
+use refusal::{Refusal, refuse};
 
 // The earlier passes take even sides only.
 fn bad_sides(w: usize, h: usize) -> bool
@@ -18,53 +18,35 @@ fn bad_sides(w: usize, h: usize) -> bool
 }
 
 // Samples of at most 10 bits. Refusals, in order: 1, 4, 5, 6.
-fn transform(kernel: usize, w: usize, h: usize, samples: &[u16], plane: &mut [i32]) -> Answer
+#[tactic(auto, unfolding(refusal::specs::Numbers::first))]
+fn transform(kernel: usize, w: usize, h: usize, samples: &[u16], plane: &mut [i32]) -> Result<(), Refusal>
     ensures result_value { answer_number result ≡ first (transform_tests kernel w h samples.now (length plane.old)) }
     ensures fact { Result (pos 0) (accepted (transform_tests kernel w h samples.now (length plane.old))) (coefficient kernel w h samples.now) plane.old plane.new }
 {
-    let Choice::Taken(chosen) = Kernel::new(kernel) else {
-        return Answer::Refused(Refusal::Kernel);
-    };
-    if bad_sides(w, h) {
-        return Answer::Refused(Refusal::Size);
-    }
+    let chosen = refusal::known_kernel(kernel)?;
+    refuse(bad_sides(w, h), Refusal::Size)?;
     let count = w * h;
-    if samples.len() != count {
-        return Answer::Refused(Refusal::Length);
-    }
-    if plane.len() != count {
-        return Answer::Refused(Refusal::Length);
-    }
-    if refusal::bad_sample(10, samples) {
-        return Answer::Refused(Refusal::Sample);
-    }
+    refuse(samples.len() != count, Refusal::Length)?;
+    refuse(plane.len() != count, Refusal::Length)?;
+    refuse(refusal::bad_sample(10, samples), Refusal::Sample)?;
     earlier_passes::transform_level(chosen, w, h, samples, plane);
-    Answer::Done
+    Ok(())
 }
 
 // Refusals, in order: 1, 4, 5, 10.
-fn undo(kernel: usize, w: usize, h: usize, plane: &[i32], undone: &mut [i32]) -> Answer
+#[tactic(auto, unfolding(refusal::specs::Numbers::first))]
+fn undo(kernel: usize, w: usize, h: usize, plane: &[i32], undone: &mut [i32]) -> Result<(), Refusal>
     ensures result_value { answer_number result ≡ first (undo_tests kernel w h plane.now (length undone.old)) }
     ensures fact { Result (pos 0) (accepted (undo_tests kernel w h plane.now (length undone.old))) (undone_number kernel w h plane.now) undone.old undone.new }
 {
-    let Choice::Taken(chosen) = Kernel::new(kernel) else {
-        return Answer::Refused(Refusal::Kernel);
-    };
-    if bad_sides(w, h) {
-        return Answer::Refused(Refusal::Size);
-    }
+    let chosen = refusal::known_kernel(kernel)?;
+    refuse(bad_sides(w, h), Refusal::Size)?;
     let count = w * h;
-    if plane.len() != count {
-        return Answer::Refused(Refusal::Length);
-    }
-    if undone.len() != count {
-        return Answer::Refused(Refusal::Length);
-    }
-    if refusal::bad_magnitude(plane) {
-        return Answer::Refused(Refusal::Magnitude);
-    }
+    refuse(plane.len() != count, Refusal::Length)?;
+    refuse(undone.len() != count, Refusal::Length)?;
+    refuse(refusal::bad_magnitude(plane), Refusal::Magnitude)?;
     earlier_passes::undo_level(chosen, w, h, plane, undone);
-    Answer::Done
+    Ok(())
 }
 
 #[unsafe(no_mangle)]
@@ -79,7 +61,7 @@ pub extern "C" fn earlier_transform(
     ensures fact { Result (pos 0) (accepted (transform_tests kernel w h samples.now (length plane.old))) (coefficient kernel w h samples.now) plane.old plane.new }
 {
     let answer = transform(kernel, w, h, samples, plane);
-    refusal::answer_number(answer)
+    refusal::answer_number(&answer)
 }
 
 #[unsafe(no_mangle)]
@@ -94,5 +76,5 @@ pub extern "C" fn earlier_undo(
     ensures fact { Result (pos 0) (accepted (undo_tests kernel w h plane.now (length undone.old))) (undone_number kernel w h plane.now) undone.old undone.new }
 {
     let answer = undo(kernel, w, h, plane, undone);
-    refusal::answer_number(answer)
+    refusal::answer_number(&answer)
 }

@@ -52,7 +52,7 @@ pub extern "C" fn dhiirqobaal_region(numbers: &[u32], w: usize, h: usize, region
     ensures fact { Result 0 (accepted (region_tests numbers.now w h (length region.old))) (region_byte numbers.now w) region.old region.new }
 {
     let answer = region::region(numbers, w, h, region);
-    refusal::answer_number(answer)
+    refusal::answer_number(&answer)
 }
 
 #[unsafe(no_mangle)]
@@ -68,7 +68,7 @@ pub extern "C" fn dhiirqobaal_mask(
     ensures fact { Result 0 (accepted (mask_tests kernel levels w h region.now (length mask.old))) (mask_byte kernel levels w h region.now) mask.old mask.new }
 {
     let answer = picture_mask::mask(kernel, levels, w, h, region, mask);
-    refusal::answer_number(answer)
+    refusal::answer_number(&answer)
 }
 
 #[unsafe(no_mangle)]
@@ -83,7 +83,7 @@ pub extern "C" fn dhiirqobaal_join(
     ensures fact { Result 0 (accepted (join_tests w h one.now other.now (length joined.old))) (join_byte one.now other.now) joined.old joined.new }
 {
     let answer = joining::join(w, h, one, other, joined);
-    refusal::answer_number(answer)
+    refusal::answer_number(&answer)
 }
 
 #[unsafe(no_mangle)]
@@ -100,7 +100,7 @@ pub extern "C" fn dhiirqobaal_transform(
     ensures fact { Result (pos 0) (accepted (transform_tests kernel levels depth w h samples.now (length plane.old))) (coefficient kernel levels w h samples.now) plane.old plane.new }
 {
     let answer = wavelet::transform(kernel, levels, depth, w, h, samples, plane);
-    refusal::answer_number(answer)
+    refusal::answer_number(&answer)
 }
 
 #[unsafe(no_mangle)]
@@ -116,7 +116,7 @@ pub extern "C" fn dhiirqobaal_undo(
     ensures fact { Result (pos 0) (accepted (undo_tests kernel levels w h plane.now (length undone.old))) (undone_number kernel levels w h plane.now) undone.old undone.new }
 {
     let answer = wavelet::undo(kernel, levels, w, h, plane, undone);
-    refusal::answer_number(answer)
+    refusal::answer_number(&answer)
 }
 
 #[unsafe(no_mangle)]
@@ -131,7 +131,7 @@ pub extern "C" fn dhiirqobaal_show(
     ensures fact { Result 0 (accepted (show_tests depth w h (length undone.now) (length shown.old))) (λ i. in_range depth (get_or undone.now i (pos 0))) shown.old shown.new }
 {
     let answer = samples::show(depth, w, h, undone, shown);
-    refusal::answer_number(answer)
+    refusal::answer_number(&answer)
 }
 
 #[unsafe(no_mangle)]
@@ -151,7 +151,7 @@ pub extern "C" fn dhiirqobaal_show_level(
     ensures fact_2 { Result 0 (accepted (level_tests kernel levels r depth w h plane.now (length undone.old) (length shown.old))) (level_sample kernel levels r depth w h plane.now) shown.old shown.new }
 {
     let answer = level_picture::show_level(kernel, levels, r, depth, w, h, plane, undone, shown);
-    refusal::answer_number(answer)
+    refusal::answer_number(&answer)
 }
 
 #[unsafe(no_mangle)]
@@ -166,7 +166,7 @@ pub extern "C" fn dhiirqobaal_truncate(
     ensures fact { Result (pos 0) (accepted (truncate_tests q w h mask.now plane.old)) (λ i. truncated q (marked (get_or mask.now i 0)) (get_or plane.old i (pos 0))) plane.old plane.new }
 {
     let answer = samples::truncate(q, w, h, mask, plane);
-    refusal::answer_number(answer)
+    refusal::answer_number(&answer)
 }
 
 // The numbers of what `write` answers.

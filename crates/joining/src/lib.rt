@@ -7,35 +7,30 @@ ghost use Rattle.refusal.specs.Results.{Result};
 ghost use Rattle.joining.specs.Join.{join_byte, join_tests};
 ghost use Rattle.joining.specs.Marks.{Marks};
 
-use refusal::{Answer, Refusal};
+use refusal::{Refusal, refuse};
 
 // Fills the third lent buffer with the marks of the other two, for a picture of w by h samples.
 // Refusals, in order: 4, 5, 9. Under a refusal the third holds what it held.
-pub fn join(w: usize, h: usize, one: &[u8], other: &[u8], joined: &mut [u8]) -> Answer
+#[tactic(auto, unfolding(refusal::specs::Numbers::first))]
+pub fn join(
+    w: usize,
+    h: usize,
+    one: &[u8],
+    other: &[u8],
+    joined: &mut [u8],
+) -> Result<(), Refusal>
     ensures result_value { answer_number result ≡ first (join_tests w h one.now other.now (length joined.old)) }
     ensures fact { Result 0 (accepted (join_tests w h one.now other.now (length joined.old))) (join_byte one.now other.now) joined.old joined.new }
 {
-    if refusal::bad_size(w, h) {
-        return Answer::Refused(Refusal::Size);
-    }
+    refuse(refusal::bad_size(w, h), Refusal::Size)?;
     let count = w * h;
-    if one.len() != count {
-        return Answer::Refused(Refusal::Length);
-    }
-    if other.len() != count {
-        return Answer::Refused(Refusal::Length);
-    }
-    if joined.len() != count {
-        return Answer::Refused(Refusal::Length);
-    }
-    if refusal::bad_mark(one) {
-        return Answer::Refused(Refusal::Mark);
-    }
-    if refusal::bad_mark(other) {
-        return Answer::Refused(Refusal::Mark);
-    }
+    refuse(one.len() != count, Refusal::Length)?;
+    refuse(other.len() != count, Refusal::Length)?;
+    refuse(joined.len() != count, Refusal::Length)?;
+    refuse(refusal::bad_mark(one), Refusal::Mark)?;
+    refuse(refusal::bad_mark(other), Refusal::Mark)?;
     join_all(one, other, joined);
-    Answer::Done
+    Ok(())
 }
 
 // Each mark of the one or of the other.

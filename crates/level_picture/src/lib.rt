@@ -11,11 +11,12 @@ ghost use Rattle.samples.specs.Samples.{in_range};
 ghost use Rattle.level_picture.specs.Level.{level_number, level_sample, bad_area, level_tests};
 ghost use Rattle.level_picture.specs.Inner.{Lent, level_at};
 
-use kernel::{Choice, Kernel};
-use refusal::{Answer, Refusal};
+use kernel::Kernel;
+use refusal::{Refusal, refuse};
 
 // The picture at level r of a plane of w by h coefficients, as whole numbers, and brought into the range of `depth` bits.
 // Refusals, in order: 1, 2, 17, 3, 4, 5, 10. Under a refusal both lent buffers hold what they held.
+#[tactic(auto, unfolding(refusal::specs::Numbers::first))]
 pub fn show_level(
     kernel: usize,
     levels: usize,
@@ -26,37 +27,21 @@ pub fn show_level(
     plane: &[i32],
     undone: &mut [i32],
     shown: &mut [u16],
-) -> Answer
+) -> Result<(), Refusal>
     ensures result_value { answer_number result ≡ first (level_tests kernel levels r depth w h plane.now (length undone.old) (length shown.old)) }
     ensures fact { Result (pos 0) (accepted (level_tests kernel levels r depth w h plane.now (length undone.old) (length shown.old))) (level_number kernel levels r w h plane.now) undone.old undone.new }
     ensures fact_2 { Result 0 (accepted (level_tests kernel levels r depth w h plane.now (length undone.old) (length shown.old))) (level_sample kernel levels r depth w h plane.now) shown.old shown.new }
 {
-    let Choice::Taken(chosen) = Kernel::new(kernel) else {
-        return Answer::Refused(Refusal::Kernel);
-    };
-    if refusal::bad_levels(levels) {
-        return Answer::Refused(Refusal::Levels);
-    }
-    if refusal::bad_level(r, levels) {
-        return Answer::Refused(Refusal::Level);
-    }
-    if refusal::bad_depth(depth) {
-        return Answer::Refused(Refusal::Depth);
-    }
-    if refusal::bad_size(w, h) {
-        return Answer::Refused(Refusal::Size);
-    }
-    if plane.len() != w * h {
-        return Answer::Refused(Refusal::Length);
-    }
-    if bad_area(r, w, h, undone.len(), shown.len()) {
-        return Answer::Refused(Refusal::Length);
-    }
-    if refusal::bad_magnitude(plane) {
-        return Answer::Refused(Refusal::Magnitude);
-    }
+    let chosen = refusal::known_kernel(kernel)?;
+    refuse(refusal::bad_levels(levels), Refusal::Levels)?;
+    refuse(refusal::bad_level(r, levels), Refusal::Level)?;
+    refuse(refusal::bad_depth(depth), Refusal::Depth)?;
+    refuse(refusal::bad_size(w, h), Refusal::Size)?;
+    refuse(plane.len() != w * h, Refusal::Length)?;
+    refuse(bad_area(r, w, h, undone.len(), shown.len()), Refusal::Length)?;
+    refuse(refusal::bad_magnitude(plane), Refusal::Magnitude)?;
     show_area(chosen, levels, r, depth, w, h, plane, undone, shown);
-    Answer::Done
+    Ok(())
 }
 
 // The buffer for the whole numbers or that for what is shown, of these lengths, is not as long as the area at level r.

@@ -12,8 +12,8 @@ ghost use Rattle.refusal.specs.Results.{Result};
 ghost use Rattle.picture_mask.specs.Masks.{mask_byte, mask_tests};
 ghost use Rattle.picture_mask.specs.Areas.{Binary, Strip, Area, Whole, Region, bytes, mask_on, mask_line_bytes};
 
-use kernel::{Choice, Kernel};
-use refusal::{Answer, Refusal};
+use kernel::Kernel;
+use refusal::{Refusal, refuse};
 
 // The row pass over an area of w by h, in rows of stride bytes: each row is parted in place, and masked in its two parts.
 fn row_pass(kernel: Kernel, buf: &mut [u8], line: &mut [u16], stride: usize, w: usize, h: usize)
@@ -155,6 +155,7 @@ pub fn mask_levels(kernel: Kernel, levels: usize, w: usize, h: usize, marks: &mu
 
 // Fills the lent mask of a picture of w by h samples from its region.
 // Refusals, in order: 1, 2, 4, 5, 9. Under a refusal the mask holds what it held.
+#[tactic(auto, unfolding(refusal::specs::Numbers::first))]
 pub fn mask(
     kernel: usize,
     levels: usize,
@@ -162,29 +163,17 @@ pub fn mask(
     h: usize,
     region: &[u8],
     mask: &mut [u8],
-) -> Answer
+) -> Result<(), Refusal>
     ensures result_value { answer_number result ≡ first (mask_tests kernel levels w h region.now (length mask.old)) }
     ensures fact { Result 0 (accepted (mask_tests kernel levels w h region.now (length mask.old))) (mask_byte kernel levels w h region.now) mask.old mask.new }
 {
-    let Choice::Taken(chosen) = Kernel::new(kernel) else {
-        return Answer::Refused(Refusal::Kernel);
-    };
-    if refusal::bad_levels(levels) {
-        return Answer::Refused(Refusal::Levels);
-    }
-    if refusal::bad_size(w, h) {
-        return Answer::Refused(Refusal::Size);
-    }
-    if region.len() != w * h {
-        return Answer::Refused(Refusal::Length);
-    }
-    if mask.len() != w * h {
-        return Answer::Refused(Refusal::Length);
-    }
-    if refusal::bad_mark(region) {
-        return Answer::Refused(Refusal::Mark);
-    }
+    let chosen = refusal::known_kernel(kernel)?;
+    refuse(refusal::bad_levels(levels), Refusal::Levels)?;
+    refuse(refusal::bad_size(w, h), Refusal::Size)?;
+    refuse(region.len() != w * h, Refusal::Length)?;
+    refuse(mask.len() != w * h, Refusal::Length)?;
+    refuse(refusal::bad_mark(region), Refusal::Mark)?;
     transfer::bytes::place(region, mask, w, h);
     mask_levels(chosen, levels, w, h, mask);
-    Answer::Done
+    Ok(())
 }

@@ -5,6 +5,9 @@ ghost use Rattle.std.specs.Prelude.{◌≡◌, true, false, ◌<◌, ◌≤◌, 
 ghost use Rattle.refusal.specs.Numbers.{refusal_number, answer_number, needed_length};
 ghost use Rattle.refusal.specs.Tests as tests;
 ghost use Rattle.refusal.specs.Parts.{part_size, part_start};
+ghost use Rattle.kernel.specs.Kernels.{the_kernel};
+
+use kernel::Kernel;
 
 // Refusals 1 to 17 and 19, in the order of their numbers (docs/FORMAT.md, "Refusals"). 11 has the needed length.
 #[derive(Clone, Copy)]
@@ -80,6 +83,13 @@ pub fn refuse(bad: bool, refusal: Refusal) -> Result<(), Refusal>
     ensures { MatchResult result (λ _. bad ≡ false) (λ e. (bad ≡ true) × (e ≡ refusal)) }
 {
     if bad { Err(refusal) } else { Ok(()) }
+}
+
+// The kernel of a number, or refusal 1.
+pub fn known_kernel(number: usize) -> Result<Kernel, Refusal>
+    ensures { MatchResult result (λ k. (tests.bad_kernel number ≡ false) × (k ≡ the_kernel number)) (λ e. (tests.bad_kernel number ≡ true) × (e ≡ Refusal.Kernel)) }
+{
+    Kernel::new(number).ok_or(Refusal::Kernel)
 }
 
 pub fn bad_levels(levels: usize) -> bool

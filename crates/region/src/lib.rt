@@ -9,29 +9,22 @@ ghost use Rattle.refusal.specs.Tests as tests;
 ghost use Rattle.region.specs.Region.{region_byte, region_tests};
 ghost use Rattle.region.specs.Drawing.{Filled, Drawn, Inside, placed_byte, DrawnPlaced, Framed};
 
-use refusal::{Answer, Refusal};
+use refusal::{Refusal, refuse};
 
 // Fills the lent region of a picture of w by h samples from rectangle numbers, four a rectangle.
 // Refusals, in order: 4, 7, 8, 5. Under a refusal the region holds what it held.
-pub fn region(numbers: &[u32], w: usize, h: usize, region: &mut [u8]) -> Answer
+#[tactic(auto, unfolding(refusal::specs::Numbers::first))]
+pub fn region(numbers: &[u32], w: usize, h: usize, region: &mut [u8]) -> Result<(), Refusal>
     ensures result_value { answer_number result ≡ first (region_tests numbers.now w h (length region.old)) }
     ensures fact { Result 0 (accepted (region_tests numbers.now w h (length region.old))) (region_byte numbers.now w) region.old region.new }
 {
-    if refusal::bad_size(w, h) {
-        return Answer::Refused(Refusal::Size);
-    }
-    if bad_numbers(numbers) {
-        return Answer::Refused(Refusal::Numbers);
-    }
-    if bad_rectangles(numbers, w, h) {
-        return Answer::Refused(Refusal::Rectangle);
-    }
+    refuse(refusal::bad_size(w, h), Refusal::Size)?;
+    refuse(bad_numbers(numbers), Refusal::Numbers)?;
+    refuse(bad_rectangles(numbers, w, h), Refusal::Rectangle)?;
     let count = w * h;
-    if region.len() != count {
-        return Answer::Refused(Refusal::Length);
-    }
+    refuse(region.len() != count, Refusal::Length)?;
     draw(numbers, w, region);
-    Answer::Done
+    Ok(())
 }
 
 // Not four a rectangle, or above 32 rectangles.

@@ -10,29 +10,22 @@ ghost use Rattle.bitplane.specs.Bits.{dropped};
 ghost use Rattle.samples.specs.Samples.{in_range, truncated, show_tests, truncate_tests};
 ghost use Rattle.samples.specs.Accepted.{Accepted};
 
-use refusal::{Answer, Refusal};
+use refusal::{Refusal, refuse};
 
 // Brings the undone numbers of a picture of w by h samples into the range of `depth` bits.
 // Refusals, in order: 3, 4, 5. Under a refusal the shown samples hold what they held.
-pub fn show(depth: usize, w: usize, h: usize, undone: &[i32], shown: &mut [u16]) -> Answer
+#[tactic(auto, unfolding(refusal::specs::Numbers::first))]
+pub fn show(depth: usize, w: usize, h: usize, undone: &[i32], shown: &mut [u16]) -> Result<(), Refusal>
     ensures result_value { answer_number result ≡ first (show_tests depth w h (length undone.now) (length shown.old)) }
     ensures fact { Result 0 (accepted (show_tests depth w h (length undone.now) (length shown.old))) (λ i. in_range depth (get_or undone.now i (pos 0))) shown.old shown.new }
 {
-    if refusal::bad_depth(depth) {
-        return Answer::Refused(Refusal::Depth);
-    }
-    if refusal::bad_size(w, h) {
-        return Answer::Refused(Refusal::Size);
-    }
+    refuse(refusal::bad_depth(depth), Refusal::Depth)?;
+    refuse(refusal::bad_size(w, h), Refusal::Size)?;
     let count = w * h;
-    if undone.len() != count {
-        return Answer::Refused(Refusal::Length);
-    }
-    if shown.len() != count {
-        return Answer::Refused(Refusal::Length);
-    }
+    refuse(undone.len() != count, Refusal::Length)?;
+    refuse(shown.len() != count, Refusal::Length)?;
     show_all(depth, undone, shown);
-    Answer::Done
+    Ok(())
 }
 
 // Each undone number, brought into range.
@@ -62,31 +55,20 @@ fn in_range(top: u16, z: i32) -> u16
 
 // Drops q planes of each coefficient of a plane that the mask does not mark, in place.
 // Refusals, in order: 3, 4, 5, 9, 10. Under a refusal the plane holds what it held.
-pub fn truncate(q: usize, w: usize, h: usize, mask: &[u8], plane: &mut [i32]) -> Answer
+#[tactic(auto, unfolding(refusal::specs::Numbers::first))]
+pub fn truncate(q: usize, w: usize, h: usize, mask: &[u8], plane: &mut [i32]) -> Result<(), Refusal>
     ensures result_value { answer_number result ≡ first (truncate_tests q w h mask.now plane.old) }
     ensures fact { Result (pos 0) (accepted (truncate_tests q w h mask.now plane.old)) (λ i. truncated q (marked (get_or mask.now i 0)) (get_or plane.old i (pos 0))) plane.old plane.new }
 {
-    if 22 < q {
-        return Answer::Refused(Refusal::Depth);
-    }
-    if refusal::bad_size(w, h) {
-        return Answer::Refused(Refusal::Size);
-    }
+    refuse(22 < q, Refusal::Depth)?;
+    refuse(refusal::bad_size(w, h), Refusal::Size)?;
     let count = w * h;
-    if mask.len() != count {
-        return Answer::Refused(Refusal::Length);
-    }
-    if plane.len() != count {
-        return Answer::Refused(Refusal::Length);
-    }
-    if refusal::bad_mark(mask) {
-        return Answer::Refused(Refusal::Mark);
-    }
-    if refusal::bad_magnitude(plane) {
-        return Answer::Refused(Refusal::Magnitude);
-    }
+    refuse(mask.len() != count, Refusal::Length)?;
+    refuse(plane.len() != count, Refusal::Length)?;
+    refuse(refusal::bad_mark(mask), Refusal::Mark)?;
+    refuse(refusal::bad_magnitude(plane), Refusal::Magnitude)?;
     truncate_all(q, mask, plane);
-    Answer::Done
+    Ok(())
 }
 
 // Each coefficient, truncated in place.

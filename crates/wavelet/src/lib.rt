@@ -13,8 +13,8 @@ ghost use Rattle.refusal.specs.Results.{Result};
 ghost use Rattle.wavelet.specs.Wavelet.{samples_of, coefficients_of, coefficient, undone_number, transform_tests, undo_tests};
 ghost use Rattle.wavelet.specs.Walks.{area_bound, Levels, Undone, Sized};
 
-use kernel::{Choice, Kernel};
-use refusal::{Answer, Refusal};
+use kernel::Kernel;
+use refusal::{Refusal, refuse};
 
 // A level and those below it: the row pass, and then `cols`.
 #[cycle(cols_rows)]
@@ -79,6 +79,7 @@ fn transform_all(
 
 // The plane of a picture of w by h samples of `depth` bits.
 // Refusals, in order: 1, 2, 3, 4, 5, 6. Under a refusal the plane holds what it held.
+#[tactic(auto, unfolding(refusal::specs::Numbers::first))]
 pub fn transform(
     kernel: usize,
     levels: usize,
@@ -87,34 +88,20 @@ pub fn transform(
     h: usize,
     samples: &[u16],
     plane: &mut [i32],
-) -> Answer
+) -> Result<(), Refusal>
     ensures result_value { answer_number result ≡ first (transform_tests kernel levels depth w h samples.now (length plane.old)) }
     ensures fact { Result (pos 0) (accepted (transform_tests kernel levels depth w h samples.now (length plane.old))) (coefficient kernel levels w h samples.now) plane.old plane.new }
 {
-    let Choice::Taken(chosen) = Kernel::new(kernel) else {
-        return Answer::Refused(Refusal::Kernel);
-    };
-    if refusal::bad_levels(levels) {
-        return Answer::Refused(Refusal::Levels);
-    }
-    if refusal::bad_depth(depth) {
-        return Answer::Refused(Refusal::Depth);
-    }
-    if refusal::bad_size(w, h) {
-        return Answer::Refused(Refusal::Size);
-    }
+    let chosen = refusal::known_kernel(kernel)?;
+    refuse(refusal::bad_levels(levels), Refusal::Levels)?;
+    refuse(refusal::bad_depth(depth), Refusal::Depth)?;
+    refuse(refusal::bad_size(w, h), Refusal::Size)?;
     let count = w * h;
-    if samples.len() != count {
-        return Answer::Refused(Refusal::Length);
-    }
-    if plane.len() != count {
-        return Answer::Refused(Refusal::Length);
-    }
-    if refusal::bad_sample(depth, samples) {
-        return Answer::Refused(Refusal::Sample);
-    }
+    refuse(samples.len() != count, Refusal::Length)?;
+    refuse(plane.len() != count, Refusal::Length)?;
+    refuse(refusal::bad_sample(depth, samples), Refusal::Sample)?;
     transform_all(chosen, levels, w, h, samples, plane);
-    Answer::Done
+    Ok(())
 }
 
 // The way back of an area of the plane, into rows `stride` apart: the levels below into every other row, and then this one.
@@ -182,6 +169,7 @@ pub fn undo_area(
 
 // The undone numbers of a plane of w by h coefficients.
 // Refusals, in order: 1, 2, 4, 5, 10. Under a refusal the undone numbers' buffer holds what it held.
+#[tactic(auto, unfolding(refusal::specs::Numbers::first))]
 pub fn undo(
     kernel: usize,
     levels: usize,
@@ -189,29 +177,17 @@ pub fn undo(
     h: usize,
     plane: &[i32],
     undone: &mut [i32],
-) -> Answer
+) -> Result<(), Refusal>
     ensures result_value { answer_number result ≡ first (undo_tests kernel levels w h plane.now (length undone.old)) }
     ensures fact { Result (pos 0) (accepted (undo_tests kernel levels w h plane.now (length undone.old))) (undone_number kernel levels w h plane.now) undone.old undone.new }
 {
-    let Choice::Taken(chosen) = Kernel::new(kernel) else {
-        return Answer::Refused(Refusal::Kernel);
-    };
-    if refusal::bad_levels(levels) {
-        return Answer::Refused(Refusal::Levels);
-    }
-    if refusal::bad_size(w, h) {
-        return Answer::Refused(Refusal::Size);
-    }
+    let chosen = refusal::known_kernel(kernel)?;
+    refuse(refusal::bad_levels(levels), Refusal::Levels)?;
+    refuse(refusal::bad_size(w, h), Refusal::Size)?;
     let count = w * h;
-    if plane.len() != count {
-        return Answer::Refused(Refusal::Length);
-    }
-    if undone.len() != count {
-        return Answer::Refused(Refusal::Length);
-    }
-    if refusal::bad_magnitude(plane) {
-        return Answer::Refused(Refusal::Magnitude);
-    }
+    refuse(plane.len() != count, Refusal::Length)?;
+    refuse(undone.len() != count, Refusal::Length)?;
+    refuse(refusal::bad_magnitude(plane), Refusal::Magnitude)?;
     undo_area(chosen, levels, w, w, h, plane, undone);
-    Answer::Done
+    Ok(())
 }
