@@ -7,8 +7,7 @@ use native.Mathlib.Nat.{mul_comm, mul-le-mul_right}
 use native.Mathlib.Omega.{arith}
 use lib.ListN.{length, get_or, get_or-eq_default}
 use Rattle.kernel.specs.declared.Kernel.{Kernel}
-use Rattle.kernel.specs.declared.Choice.TheVariants.{Taken}
-use Rattle.kernel.specs.Kernels.{kernel_of, kernel_taken}
+use Rattle.kernel.specs.Kernels.{the_kernel}
 use Rattle.line.specs.Mask.{byte_of}
 use Rattle.line.proofs.Cells.{by_lt}
 use Rattle.line.proofs.Marks.{byte_of-marked}
@@ -79,11 +78,11 @@ placed_marks W H l c some b e = binary_of W c (placed W H (picture 0 W l)) some 
 
 -- the buffer held m
 module _ (n J W H : ℕ) (k : Kernel) (l m c : List ℕ) where
-  pub mask_of_placed : {m' : List ℕ} → Taken k ≡ kernel_of n → Binary l → length m ≡ length c → picture 0 W c ≡ placed W H (picture 0 W l)
+  pub mask_of_placed : {m' : List ℕ} → k ≡ the_kernel n → Binary l → length m ≡ length c → picture 0 W c ≡ placed W H (picture 0 W l)
       → ((B : Picture Bool) → picture 0 W c ≡ placed W H (bytes B) → Result 0 true (mask_on k J W H B) c m') → Result 0 true (mask_byte n J W H l) m m'
   mask_of_placed chosen b same e r =
       let held : picture 0 W l ≡ bytes (region_of W l) = fun_ext λ y. fun_ext λ x. sym (byte_of-marked (picture 0 W l y x) (picture_most W l b y x)) in
       let p = r (region_of W l) (e ∙ ap (placed W H) held) in record {
         size = p.size ∙ sym same;
-        cell = λ i h. p.cell i (rw same at h) ∙ ap (λ (q : Kernel). byte_of (mask_of q J W H (region_of W l) (i / W) (i % W))) (ap kernel_taken chosen);
+        cell = λ i h. p.cell i (rw same at h) ∙ ap (λ (q : Kernel). byte_of (mask_of q J W H (region_of W l) (i / W) (i % W))) chosen;
       }
