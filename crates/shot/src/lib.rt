@@ -1,37 +1,32 @@
 // A shot's setting and mask, which the writer and the reader of codestreams share.
 #![tactic(auto)]
 
-ghost use Rattle.std.specs.Prelude.{◌≡◌, length};
-ghost use Rattle.shot.specs.Inner.{Set, Drawable};
-ghost use Rattle.shot.specs.Shots.{mask_bytes};
+ghost use Rattle.std.specs.Prelude.{◌≡◌, length, IfOk};
+ghost use Rattle.kernel.specs.Kernels.{the_kernel};
+ghost use Rattle.refusal.specs.Numbers.{answer_number, first};
+ghost use Rattle.shot.specs.Inner.{Drawable};
+ghost use Rattle.shot.specs.Shots.{mask_bytes, setting_tests};
 
-use kernel::{Choice, Kernel};
-use refusal::Refusal;
+use kernel::Kernel;
+use refusal::{Refusal, refuse};
 
-// The kernel of a setting, or the first refusal of the setting.
-#[derive(Clone, Copy)]
-pub enum Setting {
-    Taken(Kernel),
-    Refused(Refusal),
-}
-
-// Refusals, in order: 1, 2, 3, 4.
-pub fn take_setting(kernel: usize, levels: usize, depth: usize, w: usize, h: usize) -> Setting
-    ensures { Set kernel levels depth w h result }
+// The kernel of a setting, or the first refusal of the setting. Refusals, in order: 1, 2, 3, 4.
+#[tactic(auto, unfolding(refusal::specs::Numbers::first))]
+pub fn take_setting(
+    kernel: usize,
+    levels: usize,
+    depth: usize,
+    w: usize,
+    h: usize,
+) -> Result<Kernel, Refusal>
+    ensures number { answer_number result ≡ first (setting_tests kernel levels depth w h) }
+    ensures chosen { IfOk result (λ chosen. chosen ≡ the_kernel kernel) }
 {
-    let Choice::Taken(chosen) = Kernel::new(kernel) else {
-        return Setting::Refused(Refusal::Kernel);
-    };
-    if refusal::bad_levels(levels) {
-        return Setting::Refused(Refusal::Levels);
-    }
-    if refusal::bad_depth(depth) {
-        return Setting::Refused(Refusal::Depth);
-    }
-    if refusal::bad_size(w, h) {
-        return Setting::Refused(Refusal::Size);
-    }
-    Setting::Taken(chosen)
+    let chosen = refusal::known_kernel(kernel)?;
+    refuse(refusal::bad_levels(levels), Refusal::Levels)?;
+    refuse(refusal::bad_depth(depth), Refusal::Depth)?;
+    refuse(refusal::bad_size(w, h), Refusal::Size)?;
+    Ok(chosen)
 }
 
 // Fills the mask from rectangle numbers: draws their region there, placed, and makes its mask in place.
