@@ -9,7 +9,7 @@ ghost use Rattle.brightness.specs.Brightness as regions;
 ghost use Rattle.brightness.specs.Answers.{numbers_of};
 ghost use Rattle.brightness.specs.Inner.{Sized};
 
-use refusal::Refusal;
+use refusal::{Refusal, refuse};
 
 // The result numbers of an accepted call.
 #[derive(Clone, Copy)]
@@ -18,13 +18,6 @@ pub struct Figures {
     pub sum: u64,
     pub quotient: u64,
     pub remainder: u64,
-}
-
-// What `brightness` answers.
-#[derive(Clone, Copy)]
-pub enum Outcome {
-    Measured(Figures),
-    Refused(Refusal),
 }
 
 // How many samples are in the region, their sum, and whether a region byte is above 1.
@@ -37,27 +30,18 @@ struct Found {
 
 // The brightness of a region of a shown picture of w by h samples.
 // Refusals, in order: 4, 5, 9, 19.
-pub fn brightness(w: usize, h: usize, picture: &[u16], region: &[u8]) -> Outcome
+#[tactic(auto, unfolding(refusal::specs::Numbers::first, crate::specs::Brightness::brightness_numbers))]
+pub fn brightness(w: usize, h: usize, picture: &[u16], region: &[u8]) -> Result<Figures, Refusal>
     ensures { numbers_of result ≡ regions.brightness_numbers w h picture.now region.now }
 {
-    if refusal::bad_size(w, h) {
-        return Outcome::Refused(Refusal::Size);
-    }
+    refuse(refusal::bad_size(w, h), Refusal::Size)?;
     let count = w * h;
-    if picture.len() != count {
-        return Outcome::Refused(Refusal::Length);
-    }
-    if region.len() != count {
-        return Outcome::Refused(Refusal::Length);
-    }
+    refuse(picture.len() != count, Refusal::Length)?;
+    refuse(region.len() != count, Refusal::Length)?;
     let found = measure(w, h, picture, region);
-    if found.bad {
-        return Outcome::Refused(Refusal::Mark);
-    }
-    if found.number == 0 {
-        return Outcome::Refused(Refusal::NoSample);
-    }
-    Outcome::Measured(Figures {
+    refuse(found.bad, Refusal::Mark)?;
+    refuse(found.number == 0, Refusal::NoSample)?;
+    Ok(Figures {
         number: found.number,
         sum: found.sum,
         quotient: found.sum / found.number,

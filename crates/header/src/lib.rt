@@ -8,7 +8,7 @@ ghost use Rattle.header.specs.Writing.{Laid, Fit, Headed};
 ghost use Rattle.header.specs.Arrival.{bad_arrival, arrived_of, arrival_numbers};
 ghost use Rattle.header.specs.Answers.{numbers_of};
 
-use refusal::Refusal;
+use refusal::{Refusal, refuse};
 
 // The numbers of one, two and four bytes at a place.
 pub fn one_byte(stream: &[u8], at: usize) -> usize
@@ -158,26 +158,19 @@ pub fn write_header(
     put_rectangles(out, numbers);
 }
 
-// What `arrived` answers: the length that was sent, or the refusal.
-#[derive(Clone, Copy)]
-pub enum Arrival {
-    Sent(usize),
-    Refused(Refusal),
-}
-
-// Makes of what a call that broke off has left the stream cut to what arrived: a length field that is larger than what is there is set.
+// Makes of what a call that broke off has left the stream cut to what arrived: a length field that is larger than what is there is set. The
+// answer is the length that was sent.
 // Refusal: 12. Every other stream, and all other bytes, hold what they held.
-pub fn arrived(stream: &mut [u8]) -> Arrival
+#[tactic(auto, unfolding(refusal::specs::Numbers::first))]
+pub fn arrived(stream: &mut [u8]) -> Result<usize, Refusal>
     ensures result_value { numbers_of result ≡ arrival_numbers stream.old }
     ensures stream_after { stream.new ≡ arrived_of stream.old }
 {
-    if bad_arrival(stream) {
-        return Arrival::Refused(Refusal::Header);
-    }
+    refuse(bad_arrival(stream), Refusal::Header)?;
     let sent = four_bytes(stream, 0) + 4;
     let there = stream.len();
     if there < sent {
         put_four(stream, 0, there - 4);
     }
-    Arrival::Sent(sent)
+    Ok(sent)
 }

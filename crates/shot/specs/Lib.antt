@@ -1,4 +1,3 @@
 -- What the contracts on shots cite.
 pub mod Shots
-pub mod Settings
 pub mod Inner
