@@ -1,4 +1,3 @@
 -- The loops of brightness, what it answers, and its laws.
 pub mod Rows
-pub mod Outcomes
 pub mod Laws
