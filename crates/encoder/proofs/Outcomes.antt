@@ -4,49 +4,42 @@ use mathlib.Core.Bool.{Bool, true, false}
 use mathlib.Core.List.{List, ◌++◌}
 use Prim.Native.Nat.{ℕ, ◌<◌, ◌≤◌}
 use native.Mathlib.Omega.{arith}
-use lib.Dec.{ltb, eqb}
+use lib.Dec.{leb, ltb, eqb}
 use lib.IntN.{ℤ}
 use lib.ListN.{length, drop}
 use borrow.Author.Tests.{lt-ltb, le-ltb, eq-eqb, ne_eqb}
-use Rattle.kernel.specs.declared.Kernel.{Kernel}
 use Rattle.line.specs.Cells.{choose}
 use Rattle.refusal.specs.Numbers.{refusal_number, first, accepted}
 use Rattle.refusal.specs.Tests.{bad_numbers, bad_rectangles, bad_magnitude}
+use Rattle.std.specs.Prelude.{Result, Ok, Err}
 use Rattle.refusal.specs.declared.Refusal.{Refusal}
-use Rattle.refusal.proofs.Named.{named}
+use Rattle.refusal.specs.declared.Refusal.TheVariants.{Room}
+use Rattle.refusal.proofs.Named.{named, none_needed}
 use Rattle.refusal.proofs.Ordered.{next, is, numbered, first-append}
+use Rattle.scan.specs.Scan.{largest}
+use Rattle.scan.proofs.Largest.{bad_magnitude-largest}
 use Rattle.header.specs.Fields.{Shot}
-use Rattle.shot.specs.Inner.{Set}
-use Rattle.shot.specs.Settings.{setting_number}
 use Rattle.shot.specs.Shots.{shot_mask, marks, setting_tests, rectangle_tests}
-use Rattle.shot.specs.declared.Setting.{Setting}
-use Rattle.shot.specs.declared.Setting.TheVariants.{Taken}
-use Rattle.shot.specs.declared.Setting.TheVariants as set
 use Rattle.shot.proofs.Settings.{setting_most}
 use Rattle.codestream.specs.Stream.{area, total_length, region_mark, stream}
 use Rattle.codestream.specs.Writing.{other_tests, room_test, write_tests, write_numbers, mask_after, stream_after}
-use Rattle.encoder.specs.declared.Outcome.{Outcome}
-use Rattle.encoder.specs.declared.Outcome.TheVariants.{Written, TooShort, Refused}
+use Rattle.encoder.specs.declared.Lengths.{Lengths}
 use Rattle.encoder.specs.Inner.{Answered}
 use Rattle.encoder.specs.Answers.{numbers_of}
 
 module _ {s : Shot} {l : List ℤ} {mask out : List ℕ} where
-  -- a refusal that is not 11 leaves both buffers alone
-  pub refused : {f : ℕ} (r : Refusal) → eqb (refusal_number r) 11 ≡ false → refusal_number r ≡ f → Answered f s l mask mask out out (Refused r)
-  refused r b e = rw (← e) (record { numbers = rw (named r, b) refl; mask_held = rw (named r, b) refl; stream_held = rw (named r) refl })
-
   -- the mask is drawn, and the stream does not fit
-  pub too_short : {total : ℕ} → total ≡ total_length s l → mask ≡ shot_mask s → length out < total → Answered (first (room_test s l (length out))) s l mask mask out out (TooShort total)
+  pub too_short : {total : ℕ} → total ≡ total_length s l → mask ≡ shot_mask s → length out < total → Answered (first (room_test s l (length out))) s l mask mask out out (Err (Room total))
   unfolding first
   too_short {total} e m h = rw (lt-ltb (length out) (total_length s l) (rw (← e) h)) (record { numbers = rw e refl; mask_held = m; stream_held = refl })
 
   pub written : {total mark count : ℕ} {out' : List ℕ} → total ≡ total_length s l → mark ≡ region_mark s l → count ≡ marks s → mask ≡ shot_mask s → total_length s l ≤ length out
-      → out' ≡ stream s l ++ drop (total_length s l) out → Answered (first (room_test s l (length out))) s l mask mask out out' (Written (record { total = total; region_mark = mark; marks = count }))
+      → out' ≡ stream s l ++ drop (total_length s l) out → Answered (first (room_test s l (length out))) s l mask mask out out' (Ok (record { total = total; region_mark = mark; marks = count }))
   unfolding first
   written e f g m h o = rw (le-ltb (length out) (total_length s l) h) (record { numbers = rw (e, f, g) refl; mask_held = m; stream_held = o })
 
   -- the answer of the room's test, behind tests that passed; the mask was drawn in a buffer that held something else
-  pub behind : {f : ℕ} {held out' : List ℕ} {r : Outcome} → first (room_test s l (length out)) ≡ f → mask ≡ shot_mask s → Answered (first (room_test s l (length out))) s l mask mask out out' r
+  pub behind : {f : ℕ} {held out' : List ℕ} {r : Result Lengths Refusal} → first (room_test s l (length out)) ≡ f → mask ≡ shot_mask s → Answered (first (room_test s l (length out))) s l mask mask out out' r
       → Answered f s l held mask out out' r
   unfolding first
   behind {f} {held} {out'} {r} e m a = rw (← e) (drawn (ltb (length out) (total_length s l)) a)
@@ -56,6 +49,9 @@ module _ {s : Shot} {l : List ℤ} {mask out : List ℕ} where
       drawn false x = record { numbers = x.numbers; mask_held = m; stream_held = x.stream_held }
 
 -- ---- tests that passed
+pub large : (l : List ℤ) → bad_magnitude l ≡ leb 4194304 (largest l)
+large = bad_magnitude-largest
+
 pub drawing_passed : (W H : ℕ) (l : List ℕ) → bad_numbers l ≡ false → bad_rectangles W H l ≡ false → accepted (rectangle_tests W H l) ≡ true
 unfolding first
 drawing_passed W H l a b = rw (a, b) refl
@@ -75,20 +71,6 @@ module _ (s : Shot) (l : List ℤ) (m n : ℕ) where
   apart = first-append _ (setting_tests s.kernel s.levels s.depth s.width s.height) refl
 
   module _ {mask out : List ℕ} where
-    pub setting_refused : {t : Setting} (r : Refusal) → t ≡ set.Refused r → setting_number t ≡ first_four → Answered (first (write_tests s l m n)) s l mask mask out out (Refused r)
-    setting_refused r p e =
-        let f : refusal_number r ≡ first_four = sym (ap setting_number p) ∙ e in
-        let few = setting_most s.kernel s.levels s.depth s.width s.height in
-        refused r (ne_eqb (refusal_number r) 11 (λ q. omega arith)) (f ∙ sym (apart ∙ rw (← f, named r) refl))
-
-    pub setting_taken : {mask' out' : List ℕ} {r : Outcome} → 0 ≡ first_four → Answered (first (other_tests s l m n)) s l mask mask' out out' r
+    pub setting_taken : {mask' out' : List ℕ} {r : Result Lengths Refusal} → 0 ≡ first_four → Answered (first (other_tests s l m n)) s l mask mask' out out' r
         → Answered (first (write_tests s l m n)) s l mask mask' out out' r
     setting_taken e a = let f : first (other_tests s l m n) ≡ first (write_tests s l m n) = sym (apart ∙ rw (← e) refl) in rw f at a
-
-pub taken_number : {k J D W H : ℕ} {t : Setting} {chosen : Kernel} → t ≡ Taken chosen → Set k J D W H t → 0 ≡ first (setting_tests k J D W H)
-taken_number p e = sym (ap setting_number p) ∙ e.number
-
--- the three promises of the entry
-pub entry : {s : Shot} {l : List ℤ} {mask mask' out out' : List ℕ} {r : Outcome} → Answered (first (write_tests s l (length mask) (length out))) s l mask mask' out out' r
-    → (numbers_of r ≡ write_numbers s l (length mask) (length out)) × ((mask' ≡ mask_after s l (length out) mask) × (out' ≡ stream_after s l (length mask) out))
-entry a = (a.numbers, (a.mask_held, a.stream_held))

@@ -1,11 +1,17 @@
 -- `encoder::write` writes a stream, or refuses. Assumes nothing.
+use mathlib.Core.Path.{sym, ap, ◌∙◌}
+use borrow.Author.Rules.{rules}
+use Rattle.kernel.specs.declared.Kernel.{Kernel}
+use Rattle.shot.specs.Shots.{mask_bytes}
 use Rattle.codestream.specs.Writing.{shot_for}
-use Rattle.encoder.specs.declared.Outcome.TheVariants.{Refused}
-use Rattle.encoder.proofs.Outcomes.{setting_refused, setting_taken, taken_number, entry}
+use Rattle.encoder.proofs.Outcomes.{behind, drawing_passed, others_passed, setting_taken, large}
 use Rattle.encoder.proofs.write.Goals as goal
 
-pub returns-in-Refused : goal.returns-in-Refused
-returns-in-Refused c = let z = c.args in let both = entry {r = Refused c.in-Refused.refusal} (setting_refused (shot_for z.kernel z.levels z.depth z.w z.h z.numbers.now z.plane.now) z.plane.now _ _ c.in-Refused.refusal c.in-Refused.is c.take_setting-setting.ensures.number) in record { result_value = both.0; mask_after = both.1.0; stream_after = both.1.1 }
-
-pub returns-in-Taken : goal.returns-in-Taken
-returns-in-Taken c = let both = entry (setting_taken _ _ _ _ (taken_number c.in-Taken.is c.take_setting-setting.ensures) c.write_set.ensures) in record { result_value = both.0; mask_after = both.1.0; stream_after = both.1.1 }
+pub returns : goal.returns
+returns c = let z = c.args in
+    let s = shot_for z.kernel z.levels z.depth z.w z.h z.numbers.now z.plane.now in
+    let drawn = drawing_passed z.w z.h z.numbers.now (sym c.bad_numbers.ensures ∙ c.in_ok-refuse.ensures) (sym c.bad_rectangles.ensures ∙ c.in_ok-refuse-2.ensures) in
+    let mask_is = c.draw_mask.ensures ∙ ap (λ (k : Kernel). mask_bytes k z.levels z.w z.h z.numbers.now) c.in_ok-chosen.ensures.chosen in
+    let a = setting_taken s z.plane.now _ _ c.in_ok-chosen.ensures.number
+        (behind (others_passed s z.plane.now _ _ drawn (search rules) (search rules) (large z.plane.now ∙ search rules)) mask_is c.write_masked.ensures) in
+    record { result_value = a.numbers; mask_after = a.mask_held; stream_after = a.stream_held }
