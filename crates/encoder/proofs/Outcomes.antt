@@ -14,7 +14,7 @@ use Rattle.refusal.specs.Tests.{bad_numbers, bad_rectangles, bad_magnitude}
 use Rattle.std.specs.Prelude.{Result, Ok, Err}
 use Rattle.refusal.specs.declared.Refusal.{Refusal}
 use Rattle.refusal.specs.declared.Refusal.TheVariants.{Room}
-use Rattle.refusal.proofs.Named.{named, none_needed}
+use Rattle.refusal.proofs.Named.{named}
 use Rattle.refusal.proofs.Ordered.{next, is, numbered, first-append}
 use Rattle.scan.specs.Scan.{largest}
 use Rattle.scan.proofs.Largest.{bad_magnitude-largest}

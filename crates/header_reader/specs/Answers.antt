@@ -1,17 +1,15 @@
 -- What reading a header answers (docs/FORMAT.md, "Reading" and "Calls").
 --
 --   header_for s == the header of the shot s, with its rectangles' numbers in an array
---   Chosen l r   == the kernel of a setting that is taken is that of the header
+--   headed_for s == that header with the kernel of its number
 --
 -- Assumes nothing: these are definitions.
-use Rattle.std.specs.Prelude.{◌≡◌, List, ℕ, ◌/◌, length, get_or}
-use Rattle.kernel.specs.declared.Kernel.{Kernel}
+use Rattle.std.specs.Prelude.{◌/◌, length, get_or}
 use Rattle.kernel.specs.Kernels.{the_kernel}
 use Rattle.line.specs.Cells.{listed}
-use Rattle.header.specs.Fields.{Shot, shot_of}
-use Rattle.shot.specs.declared.Setting.{Setting}
-use Rattle.shot.specs.declared.Setting.TheVariants.{Taken}
+use Rattle.header.specs.Fields.{Shot}
 use Rattle.header_reader.specs.declared.Header.{Header}
+use Rattle.header_reader.specs.declared.Headed.{Headed}
 
 abbrev pub header_for : Shot → Header
 header_for s = record {
@@ -25,5 +23,5 @@ header_for s = record {
   rectangles = listed 128 (λ i. get_or s.rectangles i 0);
 }
 
-abbrev pub Chosen : List ℕ → Setting → Type 0
-Chosen l r = (chosen : Kernel) → r ≡ Taken chosen → chosen ≡ the_kernel (shot_of l).kernel
+abbrev pub headed_for : Shot → Headed
+headed_for s = record { kernel = the_kernel s.kernel; header = header_for s }

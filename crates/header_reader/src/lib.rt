@@ -1,17 +1,15 @@
 // Reads the headers of codestreams.
 #![tactic(auto)]
 
-ghost use Rattle.std.specs.Prelude.{◌≡◌, ◌+◌, ◌*◌, ◌≤◌, length};
-ghost use Rattle.refusal.specs.Numbers.{first};
+ghost use Rattle.std.specs.Prelude.{◌≡◌, ◌+◌, ◌*◌, ◌≤◌, length, IfOk};
+ghost use Rattle.refusal.specs.Numbers.{answer_number, first};
 ghost use Rattle.header.specs.Fields.{shot_of};
-ghost use Rattle.shot.specs.Settings.{setting_number};
-ghost use Rattle.codestream.specs.Reading.{shot_tests, header_tests, no_shot, shot_under};
-ghost use Rattle.header_reader.specs.Answers.{header_for, Chosen};
-ghost use Rattle.header_reader.specs.Inner.{rectangle_array, Set, Answered, refused_with};
+ghost use Rattle.codestream.specs.Reading.{shot_tests, header_tests, no_shot};
+ghost use Rattle.header_reader.specs.Answers.{header_for, headed_for};
+ghost use Rattle.header_reader.specs.Inner.{rectangle_array, Set};
 
 use kernel::Kernel;
-use refusal::Refusal;
-use shot::Setting;
+use refusal::{Refusal, refuse};
 
 // A header with its rectangles' numbers, x, y, width and height of each in turn; 0 behind those of the last one.
 #[derive(Clone, Copy)]
@@ -26,36 +24,29 @@ pub struct Header {
     pub rectangles: [u32; 128],
 }
 
-// What `read_header` answers. Under a refusal every number of the header is 0.
+// A header that was read, and the kernel of its number.
 #[derive(Clone, Copy)]
 pub struct Headed {
-    pub setting: Setting,
+    pub kernel: Kernel,
     pub header: Header,
 }
 
 // Reads the header of a stream.
 // Refusals, in order: 12, 13, 1, 2, 3, 4, 7, 8, 14.
-pub fn read_header(stream: &[u8]) -> Headed
-    ensures setting_value { setting_number result.setting ≡ first (header_tests stream.now) }
-    ensures header_value { result.header ≡ header_for (shot_under (first (header_tests stream.now)) stream.now) }
-    ensures chosen { Chosen stream.now result.setting }
+#[tactic(auto, unfolding(refusal::specs::Numbers::first))]
+pub fn read_header(stream: &[u8]) -> Result<Headed, Refusal>
+    ensures number { answer_number result ≡ first (header_tests stream.now) }
+    ensures headed { IfOk result (λ headed. headed ≡ headed_for (shot_of stream.now)) }
 {
-    if header::bad_header(stream) {
-        return refused(Refusal::Header);
-    }
-    if header::bad_version(stream) {
-        return refused(Refusal::Version);
-    }
+    refuse(header::bad_header(stream), Refusal::Header)?;
+    refuse(header::bad_version(stream), Refusal::Version)?;
     let kernel = header::one_byte(stream, 5);
     let levels = header::one_byte(stream, 6);
     let depth = header::one_byte(stream, 7);
     let w = header::two_bytes(stream, 8);
     let h = header::two_bytes(stream, 10);
-    let setting = shot::take_setting(kernel, levels, depth, w, h);
-    match setting {
-        Setting::Refused(refusal) => refused(refusal),
-        Setting::Taken(chosen) => header_set(chosen, stream, kernel, levels, depth, w, h),
-    }
+    let chosen = shot::take_setting(kernel, levels, depth, w, h)?;
+    header_set(chosen, stream, kernel, levels, depth, w, h)
 }
 
 // A header of zeros.
@@ -75,16 +66,6 @@ pub fn no_header() -> Header
     }
 }
 
-fn refused(refusal: Refusal) -> Headed
-    ensures { result ≡ refused_with refusal }
-{
-    let header = no_header();
-    Headed {
-        setting: Setting::Refused(refusal),
-        header: header,
-    }
-}
-
 // The numbers of the rectangles, and 0 behind them.
 fn rectangle_numbers(stream: &[u8], count: usize) -> [u32; 128]
     requires { (count ≤ 32) × (14 + 8 * count ≤ length stream.now) }
@@ -98,6 +79,7 @@ fn rectangle_numbers(stream: &[u8], count: usize) -> [u32; 128]
 }
 
 // The refusals behind those of the setting, and the header.
+#[tactic(auto, unfolding(refusal::specs::Numbers::first))]
 fn header_set(
     chosen: Kernel,
     stream: &[u8],
@@ -106,25 +88,23 @@ fn header_set(
     depth: usize,
     w: usize,
     h: usize,
-) -> Headed
+) -> Result<Headed, Refusal>
     requires { Set stream.now chosen kernel levels depth w h }
-    ensures { Answered (first (shot_tests (shot_of stream.now))) stream.now result }
+    ensures number { answer_number result ≡ first (shot_tests (shot_of stream.now)) }
+    ensures headed { IfOk result (λ headed. headed ≡ headed_for (shot_of stream.now)) }
 {
     let count = header::one_byte(stream, 12);
-    if 32 < count {
-        return refused(Refusal::Numbers);
-    }
+    refuse(32 < count, Refusal::Numbers)?;
     let rectangles = rectangle_numbers(stream, count);
     let n = 4 * count;
-    if region::bad_rectangles(&rectangles[..n], w, h) {
-        return refused(Refusal::Rectangle);
-    }
+    refuse(
+        region::bad_rectangles(&rectangles[..n], w, h),
+        Refusal::Rectangle,
+    )?;
     let planes = header::one_byte(stream, 13);
-    if 22 < planes {
-        return refused(Refusal::Planes);
-    }
-    Headed {
-        setting: Setting::Taken(chosen),
+    refuse(22 < planes, Refusal::Planes)?;
+    Ok(Headed {
+        kernel: chosen,
         header: Header {
             kernel: kernel,
             levels: levels,
@@ -135,5 +115,5 @@ fn header_set(
             count: count,
             rectangles: rectangles,
         },
-    }
+    })
 }

@@ -1,38 +1,37 @@
 -- `header_reader::header_set` tests what stands behind the setting. Assumes nothing.
 use mathlib.Core.Path.{◌≡◌, refl, sym, ap, ◌∙◌}
-use mathlib.Core.Bool.{false}
-use mathlib.Core.List.{List}
-use Prim.Native.Nat.{ℕ}
-use native.Mathlib.Omega.{arith}
-use borrow.Author.Tests.{lt-ltb, le-ltb}
+use borrow.Author.Rules.{rules}
+use borrow.Author.Tests.{ltb-false}
 use Rattle.kernel.specs.Kernels.{the_kernel}
-use Rattle.refusal.specs.Tests.{bad_rectangles}
-use Rattle.refusal.specs.declared.Refusal.TheVariants.{Numbers, Rectangle, Planes}
-use Rattle.header.specs.Fields.{shot_of}
-use Rattle.codestream.specs.Reading.{bad_planes}
-use Rattle.header_reader.proofs.Tests.{many, outside, deep, none}
-use Rattle.header_reader.proofs.Answered.{refused_answer, taken_answer, header_is, rectangles_tested}
+use Rattle.refusal.specs.Numbers.{first}
+use Rattle.header_reader.proofs.Tests.{numbers_tested}
+use Rattle.header_reader.proofs.Answered.{header_is, rectangles_tested}
 use Rattle.header_reader.proofs.header_set.Goals as goal
 
-pub returns-then-count-gt32 : goal.returns-then-count-gt32
-returns-then-count-gt32 c = let L : List ℕ = c.args.stream.now in
-    refused_answer Numbers c.refused.ensures (many L c.one_byte-count.ensures.value c.if-count-gt32.true)
+pub returns-in_err-refuse-clause-number : goal.returns-in_err-refuse-clause-number
+unfolding first
+returns-in_err-refuse-clause-number c = let many = numbers_tested c.args.stream.now c.one_byte-count.ensures.value in search rules
 
-pub returns-then-bad_rectangles : goal.returns-then-bad_rectangles
-returns-then-bad_rectangles c = let L : List ℕ = c.args.stream.now in
-    let tested : let s = shot_of L in c.bad_rectangles.result ≡ bad_rectangles s.width s.height s.rectangles = c.bad_rectangles.ensures ∙ rectangles_tested L c.one_byte-count.ensures.value c.rectangle_numbers-rectangles.ensures c.if-count-gt32.false refl c.requires.width c.requires.height in
-    refused_answer Rectangle c.refused-then-bad_rectangles.ensures (outside L c.one_byte-count.ensures.value c.if-count-gt32.false (sym tested ∙ c.if-bad_rectangles.true))
+pub returns-in_err-refuse-2-clause-number : goal.returns-in_err-refuse-2-clause-number
+unfolding first
+returns-in_err-refuse-2-clause-number c = let L = c.args.stream.now in let count = c.one_byte-count.ensures.value in
+    let many = numbers_tested L count in
+    let outside = rectangles_tested L count c.rectangle_numbers-rectangles.ensures (ltb-false 32 _ c.in_ok-refuse.ensures) refl c.requires.width c.requires.height in search rules
 
-pub returns-then-planes-gt22 : goal.returns-then-planes-gt22
-returns-then-planes-gt22 c = let L : List ℕ = c.args.stream.now in
-    let tested : let s = shot_of L in c.bad_rectangles.result ≡ bad_rectangles s.width s.height s.rectangles = c.bad_rectangles.ensures ∙ rectangles_tested L c.one_byte-count.ensures.value c.rectangle_numbers-rectangles.ensures c.if-count-gt32.false refl c.requires.width c.requires.height in
-    let inside : let s = shot_of L in bad_rectangles s.width s.height s.rectangles ≡ false = sym tested ∙ c.if-bad_rectangles.false in
-    refused_answer Planes c.refused-then-planes-gt22.ensures (deep L c.one_byte-count.ensures.value c.if-count-gt32.false inside (sym (ap bad_planes c.one_byte-planes.ensures.value) ∙ lt-ltb 22 c.one_byte-planes.result c.if-planes-gt22.true))
+pub returns-in_err-refuse-3-clause-number : goal.returns-in_err-refuse-3-clause-number
+unfolding first
+returns-in_err-refuse-3-clause-number c = let L = c.args.stream.now in let count = c.one_byte-count.ensures.value in
+    let many = numbers_tested L count in
+    let outside = rectangles_tested L count c.rectangle_numbers-rectangles.ensures (ltb-false 32 _ c.in_ok-refuse.ensures) refl c.requires.width c.requires.height in search rules
 
-pub returns : goal.returns
-returns c = let L : List ℕ = c.args.stream.now in
-    let tested : let s = shot_of L in c.bad_rectangles.result ≡ bad_rectangles s.width s.height s.rectangles = c.bad_rectangles.ensures ∙ rectangles_tested L c.one_byte-count.ensures.value c.rectangle_numbers-rectangles.ensures c.if-count-gt32.false refl c.requires.width c.requires.height in
-    let inside : let s = shot_of L in bad_rectangles s.width s.height s.rectangles ≡ false = sym tested ∙ c.if-bad_rectangles.false in
-    let p = c.requires in
-    taken_answer _ (none L c.one_byte-count.ensures.value c.if-count-gt32.false inside (sym (ap bad_planes c.one_byte-planes.ensures.value) ∙ le-ltb 22 c.one_byte-planes.result (omega arith)))
-    (header_is L c.one_byte-count.ensures.value c.rectangle_numbers-rectangles.ensures p.kernel p.levels p.depth p.width p.height c.one_byte-planes.ensures.value) (p.chosen_is ∙ ap the_kernel p.kernel)
+pub returns-clause-number : goal.returns-clause-number
+unfolding first
+returns-clause-number c = let L = c.args.stream.now in let count = c.one_byte-count.ensures.value in
+    let many = numbers_tested L count in
+    let outside = rectangles_tested L count c.rectangle_numbers-rectangles.ensures (ltb-false 32 _ c.in_ok-refuse.ensures) refl c.requires.width c.requires.height in search rules
+
+pub returns-clause-headed : goal.returns-clause-headed
+returns-clause-headed c = let p = c.requires in
+    let header = header_is c.args.stream.now c.one_byte-count.ensures.value c.rectangle_numbers-rectangles.ensures p.kernel p.levels p.depth p.width p.height c.one_byte-planes.ensures.value in
+    let kernel = p.chosen_is ∙ ap the_kernel p.kernel in
+    λ i. record { kernel = kernel i; header = header i }
