@@ -30,7 +30,8 @@ use Rattle.shot.proofs.Masks.{mask_length, mask_binary}
 use Rattle.codestream.specs.Stream.{area, marked_passes, unmarked_passes}
 use Rattle.codestream.specs.Reading.{answer_of, plane_of, filling_test}
 use Rattle.decoder.specs.Inner.{Masked, Found}
-use Rattle.decoder.specs.declared.Outcome.TheVariants.{Done, Refused}
+use Rattle.decoder.specs.Answers.{is_whole, place_of}
+use Rattle.std.specs.Prelude.{Option, Some, None, Ok, Err}
 
 -- the length field bounds the body
 pub body_small : (l : List ℕ) → ((i : ℕ) → get_or l i 0 < 256) → bad_header l ≡ false → (m : ℕ) → 8 * length (take (length l - m) (drop m l)) < 2 ^ 62
@@ -87,8 +88,8 @@ module _ {l : List ℕ} {plane : List ℤ} {mask : List ℕ} {T : ℕ} (k : Mask
 
     -- the refusal zeroes both buffers
     pub found_filling : {plane' : List ℤ} {mask' : List ℕ} → true ≡ bad_filling b e → length plane' ≡ length plane → ((i : ℕ) → cell plane' i ≡ pos 0) → Filled 0 0 (length mask) mask mask'
-        → Found (first (filling_test l)) l plane plane' mask mask' (Refused Filling)
-    found_filling {plane'} {mask'} t s z f = subst (λ (n : ℕ). Found n l plane plane' mask mask' (Refused Filling)) (here _ 16 [] (sym (t ∙ filling_is)))
+        → Found (first (filling_test l)) l plane plane' mask mask' (Err Filling)
+    found_filling {plane'} {mask'} t s z f = subst (λ (n : ℕ). Found n l plane plane' mask mask' (Err Filling)) (here _ 16 [] (sym (t ∙ filling_is)))
         (record { numbers = refl; plane_held = zeros (pos 0) (length plane) plane' s z; mask_held = cleared f })
 
     -- ---- a body that is taken
@@ -100,16 +101,16 @@ module _ {l : List ℕ} {plane : List ℤ} {mask : List ℕ} {T : ℕ} (k : Mask
       unfolding mark_count
       marks_is = c ∙ rw (k.mask_is, mask_length)
 
-      done : {w : Bool} {x : ℕ} → w ≡ (answer_of l).whole → x ≡ (answer_of l).region_mark → Found (first (filling_test l)) l plane after mask mask (Done (record { marks = n; whole = w; region_mark = x; missing = q }))
-      done {w} {x} f g = subst (λ (f : ℕ). Found f l plane after mask mask (Done (record { marks = n; whole = w; region_mark = x; missing = q }))) (next _ 0 16 [] (sym (t ∙ filling_is)) none)
+      done : {x : Option ℕ} → is_whole x ≡ (answer_of l).whole → place_of x ≡ (answer_of l).region_mark → Found (first (filling_test l)) l plane after mask mask (Ok (record { marks = n; region_mark = x; missing = q }))
+      done {x} f g = subst (λ (f : ℕ). Found f l plane after mask mask (Ok (record { marks = n; region_mark = x; missing = q }))) (next _ 0 16 [] (sym (t ∙ filling_is)) none)
           (record { numbers = rw (f, g, marks_is, found.missing); plane_held = plane_is; mask_held = k.mask_is })
 
-      pub found_cut : 8 * length b < m → Found (first (filling_test l)) l plane after mask mask (Done (record { marks = n; whole = false; region_mark = 0; missing = q }))
+      pub found_cut : 8 * length b < m → Found (first (filling_test l)) l plane after mask mask (Ok (record { marks = n; region_mark = None; missing = q }))
       found_cut h =
           let w : (answer_of l).whole ≡ false = lt-leb (marked_end l) (8 * length (body_of l)) (stopped_was (received (body_of l)) found.marked (rw (← is) h)) in
           done (sym w) (rw w)
 
-      pub found_whole : {front : ℕ} → front ≡ front_length l → m ≤ 8 * length b → Found (first (filling_test l)) l plane after mask mask (Done (record { marks = n; whole = true; region_mark = front + (m + 7) / 8; missing = q }))
+      pub found_whole : {front : ℕ} → front ≡ front_length l → m ≤ 8 * length b → Found (first (filling_test l)) l plane after mask mask (Ok (record { marks = n; region_mark = Some (front + (m + 7) / 8); missing = q }))
       found_whole {front} f h =
           let p : m ≡ marked_end l = stopped_not (received (body_of l)) found.marked (rw (← is) h) in
           let w : (answer_of l).whole ≡ true = le-leb (marked_end l) (8 * length (body_of l)) (rw (← p, ← is) h) in

@@ -1,13 +1,12 @@
 -- The parts of the reader: what only inner contracts and proofs cite.
 --
---   refused_with r == a refusal, with a header of zeros
 --   Taken l k h    == the header h of the stream l passed its tests, and k is its kernel
 --   Masked ..      == what is known of a call once the mask is drawn
 --   Found f ..     == the answer of the body, and what the buffers then hold, where f is the number of the first test that holds, 0 if none does
 --   Answered f ..  == the same of the answer with its header
 --
 -- Assumes nothing: these are definitions.
-use Rattle.std.specs.Prelude.{◌≡◌, false, List, ℕ, ℤ, pos, length}
+use Rattle.std.specs.Prelude.{◌≡◌, false, List, ℕ, ℤ, pos, length, Result, IfOk}
 use Rattle.kernel.specs.declared.Kernel.{Kernel}
 use Rattle.kernel.specs.Kernels.{the_kernel}
 use Rattle.refusal.specs.Numbers.{first}
@@ -17,16 +16,12 @@ use Rattle.header.specs.Header.{bad_header, bad_version}
 use Rattle.header.specs.Fields.{shot_of}
 use Rattle.shot.specs.Shots.{shot_mask}
 use Rattle.codestream.specs.Stream.{area}
-use Rattle.codestream.specs.Reading.{plane_of, bad_planes, header_tests, numbers_under, no_shot, shot_under, held_under}
+use Rattle.codestream.specs.Reading.{plane_of, bad_planes, header_tests, numbers_under, held_under}
 use Rattle.header_reader.specs.declared.Header.{Header}
 use Rattle.header_reader.specs.Answers.{header_for}
-use Rattle.decoder.specs.declared.Outcome.{Outcome}
-use Rattle.decoder.specs.declared.Outcome.TheVariants.{Refused}
+use Rattle.decoder.specs.declared.Body.{Body}
 use Rattle.decoder.specs.declared.Reading.{Reading}
-use Rattle.decoder.specs.Answers.{numbers_of}
-
-abbrev pub refused_with : Refusal → Reading
-refused_with r = record { outcome = Refused r; header = header_for no_shot }
+use Rattle.decoder.specs.Answers.{found_in, numbers_of}
 
 pub record Taken (l : List ℕ) (k : Kernel) (h : Header) : Type 0 where
   pub tests : first (header_tests l) ≡ 0
@@ -42,13 +37,13 @@ pub record Masked (l : List ℕ) (plane : List ℤ) (mask : List ℕ) (T : ℕ) 
   pub full : length plane ≡ area (shot_of l)
   pub mask_is : mask ≡ shot_mask (shot_of l)
 
-pub record Found (f : ℕ) (l : List ℕ) (plane plane' : List ℤ) (mask mask' : List ℕ) (r : Outcome) : Type 0 where
-  pub numbers : numbers_of r ≡ numbers_under f l
+pub record Found (f : ℕ) (l : List ℕ) (plane plane' : List ℤ) (mask mask' : List ℕ) (r : Result Body Refusal) : Type 0 where
+  pub numbers : found_in r ≡ numbers_under f l
   pub plane_held : plane' ≡ held_under (pos 0) f (plane_of l) plane
   pub mask_held : mask' ≡ held_under 0 f (shot_mask (shot_of l)) mask
 
-pub record Answered (f : ℕ) (l : List ℕ) (plane plane' : List ℤ) (mask mask' : List ℕ) (r : Reading) : Type 0 where
-  pub numbers : numbers_of r.outcome ≡ numbers_under f l
-  pub header : r.header ≡ header_for (shot_under f l)
+pub record Answered (f : ℕ) (l : List ℕ) (plane plane' : List ℤ) (mask mask' : List ℕ) (r : Result Reading Refusal) : Type 0 where
+  pub numbers : numbers_of r ≡ numbers_under f l
+  pub header : IfOk r (λ a. a.header ≡ header_for (shot_of l))
   pub plane_held : plane' ≡ held_under (pos 0) f (plane_of l) plane
   pub mask_held : mask' ≡ held_under 0 f (shot_mask (shot_of l)) mask

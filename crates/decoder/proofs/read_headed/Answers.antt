@@ -5,6 +5,7 @@ use mathlib.Core.List.{List}
 use Prim.Native.Nat.{ℕ, ◌*◌}
 use native.Mathlib.Omega.{arith}
 use lib.ListN.{length}
+use borrow.Author.Rules.{rules}
 use Rattle.refusal.specs.Numbers.{first}
 use Rattle.refusal.specs.Tests.{bad_length}
 use Rattle.refusal.specs.declared.Refusal.TheVariants.{Length}
@@ -20,23 +21,6 @@ pub overflow_mul-w : goal.overflow_mul-w
 overflow_mul-w c = let L : List ℕ = c.args.stream.now in
     area (sides L c.requires)
 
-pub returns-then-plane-w : goal.returns-then-plane-w
-returns-then-plane-w c = let L : List ℕ = c.args.stream.now in
-    let N : ℕ = length c.args.plane.now in
-    let M : ℕ = length c.args.mask.now in
-    let width : c.args.header.width ≡ (shot_of L).width = ap (λ (h : Header). h.width) c.requires.header in
-    let height : c.args.header.height ≡ (shot_of L).height = ap (λ (h : Header). h.height) c.requires.header in
-    refused_answer Length c.refused.ensures refl (plane_other L N M (other_length width height c.if-plane-w.true))
-
-pub returns-then-mask-w : goal.returns-then-mask-w
-returns-then-mask-w c = let L : List ℕ = c.args.stream.now in
-    let N : ℕ = length c.args.plane.now in
-    let M : ℕ = length c.args.mask.now in
-    let width : c.args.header.width ≡ (shot_of L).width = ap (λ (h : Header). h.width) c.requires.header in
-    let height : c.args.header.height ≡ (shot_of L).height = ap (λ (h : Header). h.height) c.requires.header in
-    let plane_full : let s = shot_of L in bad_length s.width s.height N ≡ false = full_length width height c.if-plane-w.false in
-    refused_answer Length c.refused-then-mask-w.ensures refl (mask_other L N M plane_full (other_length width height c.if-mask-w.true))
-
 pub overflow_mul-n : goal.overflow_mul-n
 overflow_mul-n c = let L : List ℕ = c.args.stream.now in
     omega (arith, few L c.requires)
@@ -51,40 +35,38 @@ slice_bounds-draw_mask-end c = let L : List ℕ = c.args.stream.now in
 
 pub draw_mask-requires : goal.draw_mask-requires
 draw_mask-requires c = let L : List ℕ = c.args.stream.now in
-    drawable L c.requires refl c.if-mask-w.false
+    drawable L c.requires refl (search rules)
 
-pub read_masked-outcome-requires : goal.read_masked-outcome-requires
-read_masked-outcome-requires c = let L : List ℕ = c.args.stream.now in
+pub read_masked-requires : goal.read_masked-requires
+read_masked-requires c = let L : List ℕ = c.args.stream.now in
     let known : Passed L = passed L c.requires.tests in
-    let width : c.args.header.width ≡ (shot_of L).width = ap (λ (h : Header). h.width) c.requires.header in
-    let height : c.args.header.height ≡ (shot_of L).height = ap (λ (h : Header). h.height) c.requires.header in
-    let planes : c.args.header.planes ≡ (shot_of L).planes = ap (λ (h : Header). h.planes) c.requires.header in
+    let width : c.args.headed.header.width ≡ (shot_of L).width = ap (λ (h : Header). h.width) c.requires.header in
+    let height : c.args.headed.header.height ≡ (shot_of L).height = ap (λ (h : Header). h.height) c.requires.header in
+    let planes : c.args.headed.header.planes ≡ (shot_of L).planes = ap (λ (h : Header). h.planes) c.requires.header in
     record {
       header = known.header;
       version = known.version;
       planes = planes;
       few = ap bad_planes planes ∙ known.planes;
       size = known.setting.size;
-      full = c.if-plane-w.false ∙ ap₂ (λ (a b : ℕ). a * b) width height;
+      full = search rules ∙ ap₂ (λ (a b : ℕ). a * b) width height;
       mask_is = c.draw_mask.ensures ∙ mask_drawn L c.requires refl;
     }
 
-pub returns-in-Refused : goal.returns-in-Refused
-returns-in-Refused c = let L : List ℕ = c.args.stream.now in
+pub returns-in_err-body : goal.returns-in_err-body
+returns-in_err-body c = let L : List ℕ = c.args.stream.now in
+    let width : c.args.headed.header.width ≡ (shot_of L).width = ap (λ (h : Header). h.width) c.requires.header in
+    let height : c.args.headed.header.height ≡ (shot_of L).height = ap (λ (h : Header). h.height) c.requires.header in
     let N : ℕ = length c.args.plane.now in
     let M : ℕ = length c.args.mask.now in
-    let width : c.args.header.width ≡ (shot_of L).width = ap (λ (h : Header). h.width) c.requires.header in
-    let height : c.args.header.height ≡ (shot_of L).height = ap (λ (h : Header). h.height) c.requires.header in
-    let plane_full : let s = shot_of L in bad_length s.width s.height N ≡ false = full_length width height c.if-plane-w.false in
-    let last : first (filling_test L) ≡ first (buffer_tests L N M) = filling_only L N M plane_full (full_length width height c.if-mask-w.false) in
-    body_refused c.draw_mask.auto.mask last c.read_masked-outcome.ensures _ c.in-Refused.is c.refused-in-Refused.ensures
+    let last : first (filling_test L) ≡ first (buffer_tests L N M) = filling_only L N M (full_length width height (search rules)) (full_length width height (search rules)) in
+    let a = body_refused c.draw_mask.auto.mask last c.read_masked.ensures _ c.in_err-body.was in search rules
 
-pub returns-in-Done : goal.returns-in-Done
-returns-in-Done c = let L : List ℕ = c.args.stream.now in
+pub returns : goal.returns
+returns c = let L : List ℕ = c.args.stream.now in
+    let width : c.args.headed.header.width ≡ (shot_of L).width = ap (λ (h : Header). h.width) c.requires.header in
+    let height : c.args.headed.header.height ≡ (shot_of L).height = ap (λ (h : Header). h.height) c.requires.header in
     let N : ℕ = length c.args.plane.now in
     let M : ℕ = length c.args.mask.now in
-    let width : c.args.header.width ≡ (shot_of L).width = ap (λ (h : Header). h.width) c.requires.header in
-    let height : c.args.header.height ≡ (shot_of L).height = ap (λ (h : Header). h.height) c.requires.header in
-    let plane_full : let s = shot_of L in bad_length s.width s.height N ≡ false = full_length width height c.if-plane-w.false in
-    let last : first (filling_test L) ≡ first (buffer_tests L N M) = filling_only L N M plane_full (full_length width height c.if-mask-w.false) in
-    body_done c.draw_mask.auto.mask last c.read_masked-outcome.ensures _ c.in-Done.is c.requires.header
+    let last : first (filling_test L) ≡ first (buffer_tests L N M) = filling_only L N M (full_length width height (search rules)) (full_length width height (search rules)) in
+    body_done c.draw_mask.auto.mask last c.read_masked.ensures _ c.in_ok-body.was c.requires.header
