@@ -12,7 +12,7 @@ use Rattle.line.specs.Cells.{choose}
 use Rattle.line.proofs.Cells.{by_bool}
 use Rattle.refusal.specs.Numbers.{Test, test, refusal_number, first, accepted}
 use Rattle.refusal.specs.declared.Refusal.{Refusal}
-use Rattle.refusal.proofs.Named.{named}
+use Rattle.refusal.proofs.Named.{named, none_needed}
 use Rattle.refusal.proofs.Ordered.{none, here, next, numbered, first-append, passes_test}
 use Rattle.header.specs.Header.{front_length}
 use Rattle.header.specs.Arrival.{cut_to}
@@ -20,23 +20,21 @@ use Rattle.codestream.specs.Reading.{answer_of, read_tests, read_numbers, plane_
 use Rattle.codestream.specs.Reading as reading
 use Rattle.codestream.specs.Cutting.{bad_cut, length_tests, cut_tests, cut_numbers, stream_after}
 use Rattle.decoder.specs.Answers as decoder
-use Rattle.decoder.specs.declared.Body.{Body}
-use Rattle.decoder.specs.declared.Outcome.{Outcome as Outcome'}
-use Rattle.decoder.specs.declared.Outcome.TheVariants.{Done as Done', Refused as Refused'}
+use Rattle.decoder.specs.declared.Reading.{Reading}
 use Rattle.cutter.specs.Inner.{Read, Answered}
 use Rattle.cutter.specs.Answers.{numbers_of}
-use Rattle.cutter.specs.declared.Outcome.{Outcome}
-use Rattle.cutter.specs.declared.Outcome.TheVariants.{Done, TooShort, Refused}
+use Rattle.std.specs.Prelude.{Result, Ok, Err}
+use Rattle.refusal.specs.declared.Refusal.TheVariants.{Room}
 
 module _ {l out : List ℕ} {c : ℕ} where
   -- a refusal that is not 11 leaves the stream buffer alone
-  pub refused : {f : ℕ} (r : Refusal) → eqb (refusal_number r) 11 ≡ false → refusal_number r ≡ f → Answered f l c out out (Refused r)
-  refused r b e = rw (← e) (record { numbers = rw (named r, b); held = rw (named r) })
+  pub refused : {f : ℕ} (r : Refusal) → eqb (refusal_number r) 11 ≡ false → refusal_number r ≡ f → Answered f l c out out (Err r)
+  refused r b e = rw (← e) (record { numbers = rw (named r, b, none_needed r b); held = rw (named r) })
 
-  pub too_short : {f : ℕ} → 11 ≡ f → Answered f l c out out (TooShort c)
+  pub too_short : {f : ℕ} → 11 ≡ f → Answered f l c out out (Err (Room c))
   too_short e = rw (← e) (record { numbers = refl; held = refl })
 
-  pub done : {f : ℕ} {out' : List ℕ} → 0 ≡ f → out' ≡ cut_to l c ++ drop c out → Answered f l c out out' (Done c)
+  pub done : {f : ℕ} {out' : List ℕ} → 0 ≡ f → out' ≡ cut_to l c ++ drop c out → Answered f l c out out' (Ok c)
   done e h = rw (← e) (record { numbers = refl; held = h })
 
 -- ---- the tests behind those of the reader, one after the other
@@ -97,20 +95,20 @@ module _ (l : List ℕ) (n m : ℕ) where
   unfolding roomless
   never_room = roomless-first (read_tests l n m) refl
 
-  module _ {x : Outcome'} (e : decoder.numbers_of x ≡ read_numbers l n m) where
-    pub reader_refused : {c : ℕ} {out : List ℕ} (r : Refusal) → x ≡ Refused' r → Answered (first (cut_tests l n m c (length out))) l c out out (Refused r)
+  module _ {x : Result Reading Refusal} (e : decoder.numbers_of x ≡ read_numbers l n m) where
+    pub reader_refused : {c : ℕ} {out : List ℕ} (r : Refusal) → x ≡ Err r → Answered (first (cut_tests l n m c (length out))) l c out out (Err r)
     reader_refused {c} {out} r h =
         let f : refusal_number r ≡ first (read_tests l n m) = ap (λ (a : reading.Numbers). a.refusal) (sym (ap decoder.numbers_of h) ∙ e) in
         refused r (ap (λ (k : ℕ). eqb k 11) f ∙ never_room) (f ∙ sym (apart c (length out) ∙ rw (← f, named r)))
 
-    module _ (b : Body) (h : x ≡ Done' b) where
-      found : decoder.numbers_of (Done' b) ≡ read_numbers l n m
+    module _ (a : Reading) (h : x ≡ Ok a) where
+      found : decoder.numbers_of (Ok a) ≡ read_numbers l n m
       found = sym (ap decoder.numbers_of h) ∙ e
 
       taken : 0 ≡ first (read_tests l n m)
       taken = ap (λ (a : reading.Numbers). a.refusal) found
 
-      pub read_so : Read l b.whole b.region_mark
+      pub read_so : Read l (decoder.is_whole a.body.region_mark) (decoder.place_of a.body.region_mark)
       read_so =
           let ok : accepted (read_tests l n m) ≡ true = ap (λ (k : ℕ). eqb k 0) (sym taken) in
           record {
@@ -119,12 +117,5 @@ module _ (l : List ℕ) (n m : ℕ) where
             mark_is = ap (λ (a : reading.Numbers). a.region_mark) found ∙ rw ok;
           }
 
-      pub cut_so : {c : ℕ} {out out' : List ℕ} {r : Outcome} → Answered (first (length_tests l c (length out))) l c out out' r → Answered (first (cut_tests l n m c (length out))) l c out out' r
+      pub cut_so : {c : ℕ} {out out' : List ℕ} {r : Result ℕ Refusal} → Answered (first (length_tests l c (length out))) l c out out' r → Answered (first (cut_tests l n m c (length out))) l c out out' r
       cut_so {c} {out} a = let f : first (length_tests l c (length out)) ≡ first (cut_tests l n m c (length out)) = sym (apart c (length out) ∙ rw (← taken)) in rw f at a
-
--- the four promises of the entry; those of plane and mask are the reader's
-pub entry : (plane : List ℤ) (mask : List ℕ) {l out out' mask' : List ℕ} {c : ℕ} {plane' : List ℤ} {r : Outcome} → Answered (first (cut_tests l (length plane) (length mask) c (length out))) l c out out' r
-    → plane' ≡ plane_after l (length mask) plane → mask' ≡ mask_after l (length plane) mask
-    → (numbers_of r ≡ cut_numbers l (length plane) (length mask) c (length out)) × ((plane' ≡ plane_after l (length mask) plane)
-    × ((mask' ≡ mask_after l (length plane) mask) × (out' ≡ stream_after l (length plane) (length mask) c out)))
-entry plane mask a p q = (a.numbers, (p, (q, a.held)))
