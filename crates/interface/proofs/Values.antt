@@ -8,26 +8,60 @@ use lib.ListN.{length, get_or, length-drop}
 use mir.Val.{bool_byte}
 use Rattle.line.specs.Cells.{choose, listed}
 use Rattle.line.proofs.Lists.{listed-length, is_listed}
-use Rattle.refusal.specs.Numbers.{first}
+use Rattle.std.specs.Prelude.{Ok, Err, IfOk, Result as Or}
+use Rattle.refusal.specs.Numbers.{refusal_number, answer_number, first}
+use Rattle.refusal.specs.declared.Refusal.{Refusal}
+use Rattle.refusal.proofs.Named.{named}
 use Rattle.refusal.proofs.Ordered.{passes_test}
 use Rattle.header.specs.Header.{front_length, bad_header, body_tests}
-use Rattle.header.specs.Fields.{Shot}
-use Rattle.codestream.specs.Reading.{Numbers}
+use Rattle.header.specs.Fields.{Shot, shot_of}
+use Rattle.header.specs.Answers as arriving
+use Rattle.brightness.specs.Answers as measuring
+use Rattle.brightness.specs.declared.Figures.{Figures}
+use Rattle.encoder.specs.Answers as writing
+use Rattle.encoder.specs.declared.Lengths.{Lengths}
+use Rattle.cutter.specs.Answers as cutting
+use Rattle.codestream.specs.Reading.{Numbers, numbers_under, shot_under}
 use Rattle.header_reader.specs.Answers.{header_for}
-use Rattle.decoder.specs.Answers.{numbers_of}
+use Rattle.decoder.specs.Answers.{is_whole, place_of, found_in, numbers_of}
+use Rattle.decoder.specs.declared.Reading.{Reading}
 use Rattle.decoder.specs.declared.Body.{Body}
 use Rattle.header_reader.specs.declared.Header.{Header}
-use Rattle.decoder.specs.declared.Outcome.{Outcome}
-use Rattle.decoder.specs.declared.Outcome.TheVariants.{Done}
-use Rattle.interface.specs.Results.{GivenAt, Given, body_numbers, header_numbers, shot_results, read_results, body_results}
+use Rattle.interface.specs.Results.{GivenAt, Given, body_numbers, header_numbers, shot_results, header_in, read_results, body_results}
 use Rattle.interface.proofs.Giving.{given_eq, given_both}
 
 byte_is : (b : Bool) → bool_byte b ≡ choose b 1 0
 byte_is true = refl
 byte_is false = refl
 
-pub found_values : (b : Body) {o : Outcome} → o ≡ Done b → (b.marks ∷ bool_byte b.whole ∷ b.region_mark ∷ b.missing ∷ []) ≡ body_numbers (numbers_of o)
-found_values b e = rw (e, byte_is b.whole) refl
+pub found_values : (b : Body) → (b.marks ∷ bool_byte (is_whole b.region_mark) ∷ place_of b.region_mark ∷ b.missing ∷ []) ≡ body_numbers (found_in (Ok b))
+found_values b = rw (byte_is (is_whole b.region_mark)) refl
+
+-- ---- the refusal of an answer is that of its numbers
+pub written : (a : Or Lengths Refusal) → answer_number a ≡ (writing.numbers_of a).refusal
+written (Ok n) = refl
+written (Err r) = refl
+
+pub read : (a : Or Reading Refusal) → answer_number a ≡ (numbers_of a).refusal
+read (Ok n) = refl
+read (Err r) = refl
+
+pub cut : (a : Or ℕ Refusal) → answer_number a ≡ (cutting.numbers_of a).refusal
+cut (Ok n) = refl
+cut (Err r) = refl
+
+pub arrived : (a : Or ℕ Refusal) → answer_number a ≡ (arriving.numbers_of a).refusal
+arrived (Ok n) = refl
+arrived (Err r) = refl
+
+pub measured : (a : Or Figures Refusal) → answer_number a ≡ (measuring.numbers_of a).refusal
+measured (Ok n) = refl
+measured (Err r) = refl
+
+-- ---- the header of an answer
+pub header_under : (f : ℕ) (l : List ℕ) (a : Or Reading Refusal) → numbers_of a ≡ numbers_under f l → IfOk a (λ x. x.header ≡ header_for (shot_of l)) → header_in a ≡ header_for (shot_under f l)
+header_under f l (Ok x) e h = let z : 0 ≡ f = ap (λ (n : Numbers). n.refusal) e in rw (← z) h
+header_under f l (Err r) e h = let z : refusal_number r ≡ f = ap (λ (n : Numbers). n.refusal) e in rw (← z, named r) refl
 
 -- ---- the body's part
 pub no_body : (l : List ℕ) → eqb (first (body_tests l)) 0 ≡ false → 0 ∷ 0 ∷ [] ≡ body_results l

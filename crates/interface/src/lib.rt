@@ -4,7 +4,7 @@
 ghost use Rattle.std.specs.Prelude.{◌≡◌, ◌+◌, ◌^◌, ◌<◌, ◌≤◌, pos, length, get_or};
 ghost use Rattle.line.specs.Cells.{listed};
 ghost use Rattle.line.specs.Mask.{marked};
-ghost use Rattle.refusal.specs.Numbers.{first, accepted};
+ghost use Rattle.refusal.specs.Numbers.{answer_number, first, accepted};
 ghost use Rattle.refusal.specs.Results.{Result};
 ghost use Rattle.header.specs.Header.{body_tests};
 ghost use Rattle.header.specs.Fields.{Shot, shot_of};
@@ -19,7 +19,6 @@ ghost use Rattle.samples.specs.Samples.{in_range, truncated, show_tests, truncat
 ghost use Rattle.level_picture.specs.Level.{level_number, level_sample, level_tests};
 ghost use Rattle.wavelet.specs.Wavelet.{coefficient, undone_number, transform_tests, undo_tests};
 ghost use Rattle.shot.specs.Shots.{shot_mask};
-ghost use Rattle.shot.specs.Settings.{setting_number};
 ghost use Rattle.codestream.specs.Writing.{shot_for, write_numbers, mask_after, stream_after};
 ghost use Rattle.codestream.specs.Reading as reading;
 ghost use Rattle.codestream.specs.Cutting as cutting;
@@ -28,10 +27,13 @@ ghost use Rattle.header_reader.specs.Answers.{header_for};
 ghost use Rattle.decoder.specs.Answers as found;
 ghost use Rattle.cutter.specs.Answers as cut;
 ghost use Rattle.exactness.specs.Shown.{level_number_at, level_sample_at, stream_tests};
-ghost use Rattle.interface.specs.Results.{GivenAt, Given, write_results, body_numbers, shot_results, read_results, cut_results, body_results, arrival_results, brightness_results, library_version};
+ghost use Rattle.interface.specs.Results.{GivenAt, Given, write_results, body_numbers, shot_results, header_in, read_results, cut_results, body_results, arrival_results, brightness_results, library_version};
 
+use brightness::Figures;
+use decoder::Reading;
+use encoder::Lengths;
 use header_reader::Header;
-use shot::Setting;
+use refusal::{Refusal, refuse};
 
 // Result numbers into the caller's array from `at` on, as far as it reaches.
 fn give(values: &[u64], at: usize, results: &mut [u64])
@@ -170,23 +172,12 @@ pub extern "C" fn dhiirqobaal_truncate(
 }
 
 // The numbers of what `write` answers.
-fn write_values(outcome: encoder::Outcome) -> [u64; 3]
-    ensures { result ≡ write_results (writing.numbers_of outcome) }
+fn write_values(answer: &Result<Lengths, Refusal>) -> [u64; 3]
+    ensures { result ≡ write_results (writing.numbers_of answer.now) }
 {
-    match outcome {
-        encoder::Outcome::Written(n) => [n.total as u64, n.region_mark as u64, n.marks as u64],
-        encoder::Outcome::TooShort(n) => [n as u64, 0, 0],
-        encoder::Outcome::Refused(_) => [0, 0, 0],
-    }
-}
-
-fn write_refusal(outcome: encoder::Outcome) -> u64
-    ensures { result ≡ (writing.numbers_of outcome).refusal }
-{
-    match outcome {
-        encoder::Outcome::Written(_) => 0,
-        encoder::Outcome::TooShort(_) => 11,
-        encoder::Outcome::Refused(refusal) => refusal::refusal_number(refusal),
+    match answer {
+        Ok(n) => [n.total as u64, n.region_mark as u64, n.marks as u64],
+        Err(refusal) => [refusal::needed_length(*refusal) as u64, 0, 0],
     }
 }
 
@@ -208,33 +199,33 @@ pub extern "C" fn dhiirqobaal_write(
     ensures mask_after { mask.new ≡ mask_after (shot_for kernel levels depth w h numbers.now plane.now) plane.now (length stream.old) mask.old }
     ensures stream_after { stream.new ≡ stream_after (shot_for kernel levels depth w h numbers.now plane.now) plane.now (length mask.old) stream.old }
 {
-    let outcome = encoder::write(plane, numbers, kernel, levels, depth, w, h, mask, stream);
-    let values = write_values(outcome);
-    give(&values, 0, results);
-    write_refusal(outcome)
+    let answer = encoder::write(plane, numbers, kernel, levels, depth, w, h, mask, stream);
+    give(&write_values(&answer), 0, results);
+    refusal::answer_number(&answer)
 }
 
-// The numbers of what `read` answers, and of the header that it returns.
-fn read_values(outcome: decoder::Outcome) -> [u64; 4]
-    ensures { result ≡ body_numbers (found.numbers_of outcome) }
+// The numbers of what `read` answers.
+fn read_values(answer: &Result<Reading, Refusal>) -> [u64; 4]
+    ensures { result ≡ body_numbers (found.numbers_of answer.now) }
 {
-    match outcome {
-        decoder::Outcome::Done(b) => [
-            b.marks as u64,
-            b.whole as u64,
-            b.region_mark as u64,
-            b.missing,
+    match answer {
+        Ok(reading) => [
+            reading.body.marks as u64,
+            reading.body.region_mark.is_some() as u64,
+            reading.body.region_mark.unwrap_or(0) as u64,
+            reading.body.missing,
         ],
-        decoder::Outcome::Refused(_) => [0, 0, 0, 0],
+        Err(_) => [0, 0, 0, 0],
     }
 }
 
-fn read_refusal(outcome: decoder::Outcome) -> u64
-    ensures { result ≡ (found.numbers_of outcome).refusal }
+// The header that it returns; under a refusal every number of it is 0.
+fn header_read(answer: &Result<Reading, Refusal>) -> Header
+    ensures { result ≡ header_in answer.now }
 {
-    match outcome {
-        decoder::Outcome::Done(_) => 0,
-        decoder::Outcome::Refused(refusal) => refusal::refusal_number(refusal),
+    match answer {
+        Ok(reading) => reading.header,
+        Err(_) => header_reader::no_header(),
     }
 }
 
@@ -275,39 +266,32 @@ fn give_header(header: Header, at: usize, results: &mut [u64])
     give(&rectangles, at + 7, results);
 }
 
-// The number of what `read_header` answers.
-fn header_refusal(setting: Setting) -> u64
-    ensures { result ≡ setting_number setting }
-{
-    match setting {
-        Setting::Taken(_) => 0,
-        Setting::Refused(refusal) => refusal::refusal_number(refusal),
-    }
-}
-
 #[unsafe(no_mangle)]
 pub extern "C" fn dhiirqobaal_header(stream: &[u8], results: &mut [u64]) -> u64
     ensures value { result ≡ first (reading.header_tests stream.now) }
     ensures given { Given (shot_results (reading.shot_under (first (reading.header_tests stream.now)) stream.now)) results.old results.new }
 {
-    let headed = header_reader::read_header(stream);
-    let setting = headed.setting;
-    let header = headed.header;
-    give_header(header, 0, results);
-    header_refusal(setting)
+    match header_reader::read_header(stream) {
+        Ok(headed) => {
+            give_header(headed.header, 0, results);
+            0
+        }
+        Err(refusal) => {
+            give_header(header_reader::no_header(), 0, results);
+            refusal::refusal_number(refusal)
+        }
+    }
 }
 
 // The numbers of a reading into the caller's array, and its refusal.
-fn give_reading(answer: decoder::Reading, results: &mut [u64]) -> u64
-    ensures value { result ≡ (found.numbers_of answer.outcome).refusal }
-    ensures given { (s : Shot) → answer.header ≡ header_for s → Given (read_results (found.numbers_of answer.outcome) s) results.old results.new }
+fn give_reading(answer: &Result<Reading, Refusal>, results: &mut [u64]) -> u64
+    ensures value { result ≡ (found.numbers_of answer.now).refusal }
+    ensures given { (s : Shot) → header_in answer.now ≡ header_for s → Given (read_results (found.numbers_of answer.now) s) results.old results.new }
 {
-    let outcome = answer.outcome;
-    let header = answer.header;
-    let body = read_values(outcome);
-    give(&body, 0, results);
+    give(&read_values(answer), 0, results);
+    let header = header_read(answer);
     give_header(header, 4, results);
-    read_refusal(outcome)
+    refusal::answer_number(answer)
 }
 
 #[unsafe(no_mangle)]
@@ -323,7 +307,7 @@ pub extern "C" fn dhiirqobaal_read(
     ensures mask_after { mask.new ≡ reading.mask_after stream.now (length plane.old) mask.old }
 {
     let answer = decoder::read(stream, plane, mask);
-    give_reading(answer, results)
+    give_reading(&answer, results)
 }
 
 #[unsafe(no_mangle)]
@@ -344,27 +328,16 @@ pub extern "C" fn dhiirqobaal_show_stream(
     ensures fact_2 { Result 0 (accepted (stream_tests stream.now r (length plane.old) (length mask.old) (length undone.old) (length shown.old))) (level_sample_at r stream.now) shown.old shown.new }
 {
     let answer = showing::show_stream(stream, r, plane, mask, undone, shown);
-    give_reading(answer, results)
+    give_reading(&answer, results)
 }
 
 // The length that `cut` answers.
-fn cut_length(outcome: cutter::Outcome) -> u64
-    ensures { result ≡ (cut.numbers_of outcome).length }
+fn cut_length(answer: &Result<usize, Refusal>) -> u64
+    ensures { result ≡ (cut.numbers_of answer.now).length }
 {
-    match outcome {
-        cutter::Outcome::Done(n) => n as u64,
-        cutter::Outcome::TooShort(n) => n as u64,
-        cutter::Outcome::Refused(_) => 0,
-    }
-}
-
-fn cut_refusal(outcome: cutter::Outcome) -> u64
-    ensures { result ≡ (cut.numbers_of outcome).refusal }
-{
-    match outcome {
-        cutter::Outcome::Done(_) => 0,
-        cutter::Outcome::TooShort(_) => 11,
-        cutter::Outcome::Refused(refusal) => refusal::refusal_number(refusal),
+    match answer {
+        Ok(n) => *n as u64,
+        Err(refusal) => refusal::needed_length(*refusal) as u64,
     }
 }
 
@@ -383,10 +356,9 @@ pub extern "C" fn dhiirqobaal_cut(
     ensures mask_after { mask.new ≡ reading.mask_after stream.now (length plane.old) mask.old }
     ensures out_after { out.new ≡ cutting.stream_after stream.now (length plane.old) (length mask.old) wanted out.old }
 {
-    let outcome = cutter::cut(stream, wanted, plane, mask, out);
-    let values = [cut_length(outcome)];
-    give(&values, 0, results);
-    cut_refusal(outcome)
+    let answer = cutter::cut(stream, wanted, plane, mask, out);
+    give(&[cut_length(&answer)], 0, results);
+    refusal::answer_number(&answer)
 }
 
 // Where the body begins in the stream, and its length.
@@ -395,52 +367,41 @@ pub extern "C" fn dhiirqobaal_body(stream: &[u8], results: &mut [u64]) -> u64
     ensures value { result ≡ first (body_tests stream.now) }
     ensures given { Given (body_results stream.now) results.old results.new }
 {
-    let number = body_refusal(stream);
-    let values = body_values(stream, number);
-    give(&values, 0, results);
-    number
+    let answer = tested_body(stream);
+    give(&body_values(stream, &answer), 0, results);
+    refusal::answer_number(&answer)
 }
 
-fn body_values(stream: &[u8], number: u64) -> [u64; 2]
-    requires { number ≡ first (body_tests stream.now) }
+// Refusals, in order: 12, 13.
+#[tactic(auto, unfolding(refusal::specs::Numbers::first))]
+fn tested_body(stream: &[u8]) -> Result<(), Refusal>
+    ensures { answer_number result ≡ first (body_tests stream.now) }
+{
+    refuse(header::bad_header(stream), Refusal::Header)?;
+    refuse(header::bad_version(stream), Refusal::Version)?;
+    Ok(())
+}
+
+fn body_values(stream: &[u8], answer: &Result<(), Refusal>) -> [u64; 2]
+    requires { answer_number answer.now ≡ first (body_tests stream.now) }
     ensures { result ≡ body_results stream.now }
 {
-    if number != 0 {
-        return [0, 0];
+    match answer {
+        Ok(_) => {
+            let start = header::front_length(stream);
+            [start as u64, (stream.len() - start) as u64]
+        }
+        Err(_) => [0, 0],
     }
-    let start = header::front_length(stream);
-    [start as u64, (stream.len() - start) as u64]
-}
-
-// The number of the first test of the body's part that holds.
-fn body_refusal(stream: &[u8]) -> u64
-    ensures { result ≡ first (body_tests stream.now) }
-{
-    if header::bad_header(stream) {
-        return 12;
-    }
-    if header::bad_version(stream) {
-        return 13;
-    }
-    0
 }
 
 // The length that `arrived` answers.
-fn arrived_length(arrival: header::Arrival) -> u64
-    ensures { result ≡ (arriving.numbers_of arrival).sent }
+fn arrived_length(answer: &Result<usize, Refusal>) -> u64
+    ensures { result ≡ (arriving.numbers_of answer.now).sent }
 {
-    match arrival {
-        header::Arrival::Sent(n) => n as u64,
-        header::Arrival::Refused(_) => 0,
-    }
-}
-
-fn arrived_refusal(arrival: header::Arrival) -> u64
-    ensures { result ≡ (arriving.numbers_of arrival).refusal }
-{
-    match arrival {
-        header::Arrival::Sent(_) => 0,
-        header::Arrival::Refused(refusal) => refusal::refusal_number(refusal),
+    match answer {
+        Ok(n) => *n as u64,
+        Err(_) => 0,
     }
 }
 
@@ -450,28 +411,18 @@ pub extern "C" fn dhiirqobaal_arrived(stream: &mut [u8], results: &mut [u64]) ->
     ensures given { Given (arrival_results (arrival_numbers stream.old)) results.old results.new }
     ensures stream_after { stream.new ≡ arrived_of stream.old }
 {
-    let arrival = header::arrived(stream);
-    let values = [arrived_length(arrival)];
-    give(&values, 0, results);
-    arrived_refusal(arrival)
+    let answer = header::arrived(stream);
+    give(&[arrived_length(&answer)], 0, results);
+    refusal::answer_number(&answer)
 }
 
 // The numbers of what `brightness` answers.
-fn brightness_values(outcome: brightness::Outcome) -> [u64; 4]
-    ensures { result ≡ brightness_results (measuring.numbers_of outcome) }
+fn brightness_values(answer: &Result<Figures, Refusal>) -> [u64; 4]
+    ensures { result ≡ brightness_results (measuring.numbers_of answer.now) }
 {
-    match outcome {
-        brightness::Outcome::Measured(b) => [b.number, b.sum, b.quotient, b.remainder],
-        brightness::Outcome::Refused(_) => [0, 0, 0, 0],
-    }
-}
-
-fn brightness_refusal(outcome: brightness::Outcome) -> u64
-    ensures { result ≡ (measuring.numbers_of outcome).refusal }
-{
-    match outcome {
-        brightness::Outcome::Measured(_) => 0,
-        brightness::Outcome::Refused(refusal) => refusal::refusal_number(refusal),
+    match answer {
+        Ok(b) => [b.number, b.sum, b.quotient, b.remainder],
+        Err(_) => [0, 0, 0, 0],
     }
 }
 
@@ -486,10 +437,9 @@ pub extern "C" fn dhiirqobaal_brightness(
     ensures value { result ≡ (brightness_numbers w h picture.now region.now).refusal }
     ensures given { Given (brightness_results (brightness_numbers w h picture.now region.now)) results.old results.new }
 {
-    let outcome = brightness::brightness(w, h, picture, region);
-    let values = brightness_values(outcome);
-    give(&values, 0, results);
-    brightness_refusal(outcome)
+    let answer = brightness::brightness(w, h, picture, region);
+    give(&brightness_values(&answer), 0, results);
+    refusal::answer_number(&answer)
 }
 
 #[unsafe(no_mangle)]

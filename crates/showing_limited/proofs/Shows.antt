@@ -4,6 +4,7 @@ use mathlib.Core.Bool.{Bool, true, false, ◌||◌}
 use mathlib.Core.List.{List, ◌∷◌}
 use Prim.Native.Nat.{ℕ, ◌*◌, ◌≤◌}
 use native.Mathlib.Omega.{arith}
+use lib.Dec.{eqb}
 use lib.ListN.{length}
 use lib.Seq.{ext_get_or}
 use borrow.Author.Tests.{eqb-true, not-false}
@@ -17,7 +18,7 @@ use Rattle.refusal.proofs.Ordered.{passes_test, numbered, first-append, accepted
 use Rattle.samples.specs.Samples.{in_range}
 use Rattle.header.specs.Fields.{shot_of}
 use Rattle.codestream.specs.Stream.{area}
-use Rattle.codestream.specs.Reading.{header_tests, buffer_tests, filling_test, read_tests, no_shot, shot_read}
+use Rattle.codestream.specs.Reading.{header_tests, buffer_tests, filling_test, read_tests}
 use Rattle.header_reader.specs.Answers.{header_for}
 use Rattle.header_reader.specs.declared.Header.{Header}
 use Rattle.exactness.specs.Shown.{shown_at, level_sample_at, area_tests, stream_tests}
@@ -59,9 +60,5 @@ full l n ok =
     let a = accepted_both (buffer_tests l n n) (header_tests l) refl ok in
     eqb-true n (area (shot_of l)) (not-false _ (passes_test (bad_length (shot_of l).width (shot_of l).height n) 4 _ a.1).0)
 
-pub rows_fit : (l : List ℕ) (n : ℕ) {h : Header} → h ≡ header_for (shot_read l (room_for l n) (room_for l n)) → h.width * h.height ≤ n
-rows_fit l n {h} e = rw e (by_answer (accepted (read_tests l (room_for l n) (room_for l n))) refl)
-  where
-    by_answer : (ok : Bool) → accepted (read_tests l (room_for l n) (room_for l n)) ≡ ok → let s = choose ok (shot_of l) no_shot in s.width * s.height ≤ n
-    by_answer true ok = omega (arith, (room_small l n).1, full l (room_for l n) ok)
-    by_answer false ok = omega arith
+pub rows_fit : (l : List ℕ) (n : ℕ) {h : Header} → 0 ≡ first (read_tests l (room_for l n) (room_for l n)) → h ≡ header_for (shot_of l) → h.width * h.height ≤ n
+rows_fit l n {h} e is = rw is (omega (arith, (room_small l n).1, full l (room_for l n) (ap (λ (f : ℕ). eqb f 0) (sym e))))
