@@ -1,10 +1,11 @@
 // Refusals: what an entry answers, and the tests that entries share.
 #![tactic(auto)]
 
-ghost use Rattle.std.specs.Prelude.{◌≡◌, ◌<◌, ◌≤◌, ◌^◌, leb, nat_abs};
+ghost use Rattle.std.specs.Prelude.{◌≡◌, ◌+◌, ◌<◌, ◌≤◌, ◌^◌, ℕ, Bool, length};
+ghost use Rattle.line.specs.Mask.{any_below};
 ghost use Rattle.refusal.specs.Numbers.{refusal_number, answer_number};
 ghost use Rattle.refusal.specs.Tests as tests;
-ghost use Rattle.refusal.specs.Parts.{part_size, part_start};
+ghost use Rattle.refusal.specs.Parts.{part_size, part_start, Tells};
 
 // Refusals 1 to 17 and 19, in the order of their numbers (docs/FORMAT.md, "Refusals").
 #[derive(Clone, Copy)]
@@ -104,12 +105,10 @@ pub fn power(n: usize) -> usize
     1 << n
 }
 
-// The scans go through every cell, so that the compiler can test many at a time, and through four parts of their buffer side by side, so that
-// memory brings a line of each at a time.
-
 // How many cells each of four parts of n cells has; they may overlap.
 fn part_size(n: usize) -> usize
-    ensures { result ≡ part_size n }
+    ensures size { result ≡ part_size n }
+    ensures inside { result ≤ n }
 {
     whole::least(n / 4 + 1, n)
 }
@@ -117,10 +116,28 @@ fn part_size(n: usize) -> usize
 // Where part p begins: behind the part before it, if it then ends inside.
 fn part_start(n: usize, p: usize) -> usize
     requires { p < 4 }
-    ensures { result ≡ part_start n p }
+    ensures start { result ≡ part_start n p }
+    ensures inside { result + part_size n ≤ n }
 {
     let size = part_size(n);
     whole::least(p * size, n - size)
+}
+
+// A test holds of a cell. The scan goes through every cell, so that the compiler can test many at a time, and through four parts of the cells
+// side by side, so that memory brings a line of each at a time.
+fn any_cell<T: Copy, F: Fn(T) -> bool>(cells: &[T], test: F) -> bool
+    requires { F.IsAlwaysCallable test }
+    ensures { (o : T) (f : ℕ → Bool) → Tells (F.post test) o f cells.now → result ≡ any_below (length cells.now) f }
+{
+    let b = part_start(cells.len(), 1);
+    let c = part_start(cells.len(), 2);
+    let d = part_start(cells.len(), 3);
+    let mut found = false;
+    for i in 0..part_size(cells.len()) {
+        found = found
+            | (test(cells[i]) | test(cells[b + i]) | (test(cells[c + i]) | test(cells[d + i])));
+    }
+    found
 }
 
 // A sample is above 2^depth - 1.
@@ -129,52 +146,19 @@ pub fn bad_sample(depth: usize, samples: &[u16]) -> bool
     ensures { result ≡ tests.bad_sample depth samples.now }
 {
     let top = (power(depth) - 1) as u16;
-    let b = part_start(samples.len(), 1);
-    let c = part_start(samples.len(), 2);
-    let d = part_start(samples.len(), 3);
-    let mut bad = false;
-    for i in 0..part_size(samples.len()) {
-        bad = bad
-            | ((top < samples[i])
-                | (top < samples[b + i])
-                | ((top < samples[c + i]) | (top < samples[d + i])));
-    }
-    bad
+    any_cell(samples, |sample| top < sample)
 }
 
 // A byte is above 1.
 pub fn bad_mark(marks: &[u8]) -> bool
     ensures { result ≡ tests.bad_mark marks.now }
 {
-    let b = part_start(marks.len(), 1);
-    let c = part_start(marks.len(), 2);
-    let d = part_start(marks.len(), 3);
-    let mut bad = false;
-    for i in 0..part_size(marks.len()) {
-        bad = bad
-            | ((1 < marks[i]) | (1 < marks[b + i]) | ((1 < marks[c + i]) | (1 < marks[d + i])));
-    }
-    bad
-}
-
-// A magnitude of 2^22 or more.
-fn large(c: i32) -> bool
-    ensures { result ≡ leb (2 ^ 22) (nat_abs c) }
-{
-    (c <= -4194304) | (4194304 <= c)
+    any_cell(marks, |mark| 1 < mark)
 }
 
 // A magnitude is 2^22 or more.
 pub fn bad_magnitude(plane: &[i32]) -> bool
     ensures { result ≡ tests.bad_magnitude plane.now }
 {
-    let b = part_start(plane.len(), 1);
-    let c = part_start(plane.len(), 2);
-    let d = part_start(plane.len(), 3);
-    let mut bad = false;
-    for i in 0..part_size(plane.len()) {
-        bad = bad
-            | (large(plane[i]) | large(plane[b + i]) | (large(plane[c + i]) | large(plane[d + i])));
-    }
-    bad
+    any_cell(plane, |c| 4194304 <= c.unsigned_abs())
 }
