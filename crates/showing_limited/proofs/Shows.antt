@@ -1,8 +1,8 @@
 -- Level 0 of a stream, in buffers of one length: the tests and the samples are the reader's. Assumes nothing.
 use mathlib.Core.Path.{◌≡◌, refl, sym, ap, ◌∙◌}
 use mathlib.Core.Bool.{Bool, true, false, ◌||◌}
-use mathlib.Core.List.{List, ◌∷◌}
-use Prim.Native.Nat.{ℕ, ◌*◌, ◌≤◌}
+use mathlib.Core.List.{List, ◌∷◌, ◌++◌}
+use Prim.Native.Nat.{ℕ, ◌*◌, ◌<◌, ◌≤◌}
 use native.Mathlib.Omega.{arith}
 use lib.ListN.{length}
 use lib.Seq.{ext_get_or}
@@ -16,8 +16,11 @@ use Rattle.refusal.specs.Results.{Result}
 use Rattle.refusal.proofs.Ordered.{passes_test, numbered, first-append, accepted_both}
 use Rattle.samples.specs.Samples.{in_range}
 use Rattle.header.specs.Fields.{shot_of}
+use Rattle.header.specs.Header.{body_tests}
 use Rattle.codestream.specs.Stream.{area}
-use Rattle.codestream.specs.Reading.{header_tests, buffer_tests, filling_test, read_tests, no_shot, shot_read}
+use Rattle.shot.specs.Shots.{setting_tests}
+use Rattle.codestream.proofs.Accepted.{setting_passed, taken}
+use Rattle.codestream.specs.Reading.{header_tests, shot_tests, buffer_tests, filling_test, read_tests, no_shot, shot_read}
 use Rattle.header_reader.specs.Answers.{header_for}
 use Rattle.header_reader.specs.declared.Header.{Header}
 use Rattle.exactness.specs.Shown.{shown_at, level_sample_at, area_tests, stream_tests}
@@ -65,3 +68,15 @@ rows_fit l n {h} e = rw e (by_answer (accepted (read_tests l (room_for l n) (roo
     by_answer : (ok : Bool) → accepted (read_tests l (room_for l n) (room_for l n)) ≡ ok → let s = choose ok (shot_of l) no_shot in s.width * s.height ≤ n
     by_answer true ok = omega (arith, (room_small l n).1, full l (room_for l n) ok)
     by_answer false ok = omega arith
+
+-- a picture that was read has columns
+pub columns : (l : List ℕ) (n : ℕ) {h : Header} → h ≡ header_for (shot_read l n n) → 0 ≡ first (read_tests l n n) → 0 < h.width
+unfolding numbered
+columns l n e f =
+    let s = shot_of l in
+    let ok : accepted (read_tests l n n) ≡ true = rw (← f) refl in
+    let a = accepted_both (buffer_tests l n n) (header_tests l) refl ok in
+    let b = accepted_both (setting_tests s.kernel s.levels s.depth s.width s.height ++ shot_tests s) (body_tests l) refl a.0 in
+    let c = accepted_both (shot_tests s) (setting_tests s.kernel s.levels s.depth s.width s.height) refl b.1 in
+    let w = (setting_passed s.kernel s.levels s.depth s.width s.height c.0).sides.width.0 in
+    rw (e, taken (accepted (read_tests l n n)) s no_shot ok) w
