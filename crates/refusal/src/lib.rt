@@ -129,6 +129,7 @@ pub fn power(n: usize) -> usize
 }
 
 // How many cells each of four parts of n cells has; they may overlap.
+#[tactic(auto, unfolding(crate::specs::Parts::part_size))]
 fn part_size(n: usize) -> usize
     ensures size { result ≡ part_size n }
     ensures inside { result ≤ n }
@@ -137,6 +138,7 @@ fn part_size(n: usize) -> usize
 }
 
 // Where part p begins: behind the part before it, if it then ends inside.
+#[tactic(auto, unfolding(crate::specs::Parts::part_start))]
 fn part_start(n: usize, p: usize) -> usize
     requires { p < 4 }
     ensures start { result ≡ part_start n p }
