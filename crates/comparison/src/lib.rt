@@ -1,5 +1,5 @@
 // The passes before paper 3 of document 02 for C, one level each way, for the comparison alone. What each promises is what the library's
-// function promises of one level, of even sides.
+// function promises of one level, of even sides. The passes themselves are in earlier_passes, as they were; here are tests and calls.
 #![tactic(auto)]
 
 ghost use Rattle.std.specs.Prelude.{◌≡◌, pos, length};

@@ -1,4 +1,5 @@
 // Signed floor division by 2, 4 and 64, from the language's division, which rounds towards zero.
+// Kept for the comparison (lib.rt): a function for each divisor.
 ghost use Rattle.std.specs.Prelude.{◌≡◌};
 ghost use Rattle.whole.specs.Floor.{floor_div};
 

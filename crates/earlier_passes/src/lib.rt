@@ -1,4 +1,5 @@
 // The passes before paper 3 of document 02, for the comparison alone: one level of the transform, and the way back.
+// All files here are as they were then: their loops by index, twins and switches are what is compared, and stay.
 #![tactic(auto)]
 
 ghost use Rattle.std.specs.Prelude.{◌≡◌, ◌-◌, ◌^◌, pos, length, get_or};

@@ -1,4 +1,5 @@
 // Lifting: the line transforms, forward and back, on strips of lines side by side.
+// Kept for the comparison (lib.rt): the switch on the step, the flag `add`, and numbers that go side by side.
 ghost use Rattle.std.specs.Prelude.{◌≡◌, ◌+◌, ◌*◌, ◌^◌, ◌≤◌, ◌<◌};
 ghost use Rattle.kernel.specs.declared.Kernel.{Kernel};
 ghost use Rattle.earlier_passes.specs.Strip.{Strips};

@@ -1,4 +1,5 @@
 // Row and column passes over a plane, forward and back, on strips of lines.
+// Kept for the comparison (lib.rt): the flag `undo`, columns counted by hand, and a `least` of their own.
 ghost use Rattle.std.specs.Prelude.{◌≡◌, ℕ, ◌+◌, ◌*◌, ◌^◌, ◌<◌, min, pos, true, false};
 ghost use Rattle.earlier_passes.specs.Strip.{Strips};
 ghost use Rattle.grid.specs.Picture.{row_pass, col_pass, turned, picture};

@@ -1,4 +1,5 @@
 // Loops over runs of numbers, one for each formula: nothing is decided for each number.
+// Kept for the comparison (lib.rt): a loop by index for each formula, the switch on the step, and the flag `add`.
 ghost use Rattle.std.specs.Prelude.{ℕ, ◌≤◌, ◌<◌, length};
 ghost use Rattle.std.specs.Int.{w32};
 ghost use Rattle.std.proofs.Common.{SFits};

@@ -1,4 +1,5 @@
 // The formulas of the line transforms on single numbers. Sums are taken in 64 bits; what is stored fits 32.
+// Kept for the comparison (lib.rt): the flag `add`.
 ghost use Rattle.std.specs.Prelude.{◌≡◌};
 ghost use Rattle.std.specs.Int.{w32};
 ghost use Rattle.std.proofs.Common.{SFits};

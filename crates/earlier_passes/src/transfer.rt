@@ -1,4 +1,5 @@
 // Strips of lines of numbers.
+// Kept for the comparison (lib.rt): loops by index, and twins for the ways in and out.
 ghost use Rattle.std.specs.Prelude.{◌*◌, ◌≤◌, pos, length};
 ghost use Rattle.grid.specs.Buffer.{InBuffer, Taken, Put};
 ghost use Rattle.earlier_passes.specs.Copied.{Room, Copied};

@@ -7,22 +7,46 @@
 // The coefficients are those of the outside 5/3. tools/outside_53/make.py makes the input.
 #![tactic(auto)]
 
-ghost use Rattle.std.specs.Prelude.{◌+◌, ◌*◌, ◌≤◌, ◌<◌, length, IfOk, IfSome};
+ghost use Rattle.std.specs.Prelude.{◌≡◌, ◌+◌, ◌*◌, ◌≤◌, ◌<◌, length, IfOk, IfSome};
 
-use refusal::answer_number;
-use std::io;
-use std::io::Read;
+use refusal::Refusal;
+use standard_input::read_input;
+use std::{fmt, io};
 
 // More bytes than these are not looked at.
 const MOST: usize = 65536;
 // The samples of any picture that the input can hold.
 const ROOM: usize = 16384;
 
-// The number of samples of a picture.
-fn area(w: u8, h: u8) -> usize
-    ensures { result < 65536 }
-{
-    usize::from(w) * usize::from(h)
+// What the input says before the samples of a picture.
+#[derive(Clone, Copy)]
+struct Head {
+    width: u8,
+    height: u8,
+    levels: u8,
+    depth: u8,
+}
+
+impl Head {
+    // The number of samples.
+    fn area(self) -> usize
+        ensures { result ≡ self.width * self.height }
+    {
+        usize::from(self.width) * usize::from(self.height)
+    }
+}
+
+impl fmt::Display for Head {
+    fn fmt<W: fmt::Write>(&self, f: &mut fmt::Formatter<W>) -> fmt::Result {
+        let Head {
+            width,
+            height,
+            levels,
+            ..
+        } = *self;
+        let s = if levels == 1 { "" } else { "s" };
+        write!(f, "{width} x {height}, {levels} level{s}")
+    }
 }
 
 fn read_samples(bytes: &[u8], samples: &mut [u16]) {
@@ -45,43 +69,37 @@ fn differences(plane: &[i32], bytes: &[u8]) -> usize
         .count()
 }
 
-// What the transform answered, and how many coefficients differ.
-#[derive(Drop)]
-struct Found {
-    refusal: u64,
-    differ: usize,
-}
-
-// Transforms a picture of so many samples by kernel 3 and compares its plane with the coefficients.
-fn compare(
-    w: usize,
-    h: usize,
-    levels: usize,
-    depth: usize,
-    cells: usize,
-    samples: &[u8],
-    coefficients: &[u8],
-) -> Found
-    requires { cells ≤ 16384 }
-    ensures of_plane { result.differ ≤ cells }
-    ensures of_bytes { 2 * result.differ ≤ length coefficients.now }
+// Transforms a picture by kernel 3 and counts the coefficients of its plane that are not the outside ones.
+fn compare(head: Head, samples: &[u8], coefficients: &[u8]) -> Result<usize, Refusal>
+    requires { head.width * head.height ≤ 16384 }
+    ensures of_plane { IfOk result (λ differ. differ ≤ head.width * head.height) }
+    ensures of_bytes { IfOk result (λ differ. 2 * differ ≤ length coefficients.now) }
 {
     let mut picture = [0u16; ROOM];
     let mut plane = [0i32; ROOM];
-    read_samples(samples, &mut picture[..cells]);
-    let answer = wavelet::transform(
+    let picture = &mut picture[..head.area()];
+    let plane = &mut plane[..head.area()];
+    read_samples(samples, picture);
+    wavelet::transform(
         3,
-        levels,
-        depth,
-        w,
-        h,
-        &picture[..cells],
-        &mut plane[..cells],
-    );
-    Found {
-        refusal: answer_number(answer),
-        differ: differences(&plane[..cells], coefficients),
-    }
+        usize::from(head.levels),
+        usize::from(head.depth),
+        usize::from(head.width),
+        usize::from(head.height),
+        picture,
+        plane,
+    )?;
+    Ok(differences(plane, coefficients))
+}
+
+// The samples and the coefficients of a picture, and the bytes behind them; `None` where the bytes end before.
+fn split(area: usize, bytes: &[u8]) -> Option<(&[u8], &[u8], &[u8])>
+    requires { area < 65536 }
+    ensures { IfSome result (λ parts. (length parts.1.now ≡ 2 * area) × (4 * area + length parts.2.now ≡ length bytes.now)) }
+{
+    let (samples, rest) = bytes.split_at_checked(2 * area)?;
+    let (coefficients, rest) = rest.split_at_checked(2 * area)?;
+    Some((samples, coefficients, rest))
 }
 
 // Compares the picture at the start of the bytes and prints its line. The number of coefficients that differ, and the bytes
@@ -90,41 +108,35 @@ fn take<'a>(rt: &impl Print, bytes: &'a [u8]) -> io::Result<Option<(usize, &'a [
     requires { length bytes.now ≤ 65536 }
     ensures { IfOk result (λ found. IfSome found (λ taken. taken.0 + length taken.1.now < length bytes.now)) }
 {
-    let Some((head, rest)) = bytes.split_first_chunk::<4>() else {
+    let Some((&[width, height, levels, depth], rest)) = bytes.split_first_chunk::<4>() else {
         println!(rt; "the input is cut")?;
         return Ok(None);
     };
-    let [w, h, levels, depth] = *head;
-    let s = if levels == 1 { "" } else { "s" };
-    print!(rt; "{w} x {h}, {levels} level{s}: ")?;
-    let cells = area(w, h);
-    let Some((samples, rest)) = rest.split_at_checked(2 * cells) else {
+    let head = Head {
+        width,
+        height,
+        levels,
+        depth,
+    };
+    print!(rt; "{head}: ")?;
+    let Some((samples, coefficients, rest)) = split(head.area(), rest) else {
         println!(rt; "the input is cut")?;
         return Ok(None);
     };
-    let Some((coefficients, rest)) = rest.split_at_checked(2 * cells) else {
-        println!(rt; "the input is cut")?;
-        return Ok(None);
-    };
-    let found = compare(
-        usize::from(w),
-        usize::from(h),
-        usize::from(levels),
-        usize::from(depth),
-        cells,
-        samples,
-        coefficients,
-    );
-    if found.refusal != 0 {
-        println!(rt; "refused {}", found.refusal)?;
-        return Ok(None);
+    match compare(head, samples, coefficients) {
+        Ok(differ) => {
+            if differ == 0 {
+                println!(rt; "same")?;
+            } else {
+                println!(rt; "{differ} differ")?;
+            }
+            Ok(Some((differ, rest)))
+        }
+        Err(refusal) => {
+            println!(rt; "refused {}", u64::from(refusal))?;
+            Ok(None)
+        }
     }
-    if found.differ == 0 {
-        println!(rt; "same")?;
-    } else {
-        println!(rt; "{} differ", found.differ)?;
-    }
-    Ok(Some((found.differ, rest)))
 }
 
 // Compares picture after picture, and stops at one that could not be compared.
@@ -134,6 +146,7 @@ fn take_all(rt: &impl Print, input: &[u8]) -> io::Result<()>
     let mut rest = input;
     let mut pictures = 0u64;
     let mut differ = 0u64;
+    // No method of the library cuts the input into pictures: each says where it ends.
     while !rest.is_empty() {
         let Some((found, behind)) = take(rt, rest)? else {
             return Ok(());
@@ -143,22 +156,6 @@ fn take_all(rt: &impl Print, input: &[u8]) -> io::Result<()>
         differ += found as u64;
     }
     println!(rt; "{pictures} pictures, {differ} coefficients differ")
-}
-
-// Fills the buffer from standard input, and tells how many bytes it then has: fewer than fit where the input ends.
-fn read_input(rt: &impl Input, buffer: &mut [u8]) -> io::Result<usize>
-    ensures { IfOk result (λ n. n ≤ length buffer.old) }
-{
-    let mut reader = rt.reader();
-    let mut n = 0usize;
-    for _ in 0..u64::MAX {
-        let found = reader.read(&mut buffer[n..])?;
-        if found == 0 {
-            break;
-        }
-        n += found;
-    }
-    Ok(n)
 }
 
 fn main(rt: HostRuntime) -> io::Result<()> {

@@ -3,8 +3,8 @@
 --   Sides W H == W and H are 1 to 4,096
 --
 -- Assumes nothing.
-use mathlib.Core.Path.{◌≡◌, refl, sym, ◌∙◌}
-use mathlib.Core.Bool.{Bool, true, false, ◌||◌, false≢true}
+use mathlib.Core.Path.{◌≡◌, sym, ◌∙◌}
+use mathlib.Core.Bool.{Bool, false, false≢true}
 use mathlib.Core.List.{List}
 use Prim.Native.Nat.{ℕ, ◌+◌, ◌*◌, ◌-◌, ◌^◌, ◌<◌, ◌≤◌}
 use native.Mathlib.Nat.{mul_comm, suc-mul, mul-le-mul, mul-le-mul_right}
@@ -18,15 +18,8 @@ use mir.Val.{Fits}
 use Rattle.line.specs.Mask.{any_below}
 use Rattle.line.proofs.Marks.{any_intro}
 use Rattle.refusal.specs.Tests.{outside, bad_size, bad_sample, bad_mark, bad_magnitude}
-
 -- ---- neither of two, none of many
-pub neither : (a b : Bool) → (a || b) ≡ false → (a ≡ false) × (b ≡ false)
-neither false b e = (refl, e)
-neither true b e = absurd (false≢true (sym e))
-
-pub not_any : (b : Bool) → (b ≡ true → ⊥) → b ≡ false
-not_any false h = refl
-not_any true h = absurd (h refl)
+pub use Rattle.std.proofs.lemmas.Bool.{or_parts as neither, false_from_ne_true as not_any}
 
 pub none_of : (n : ℕ) (f : ℕ → Bool) → any_below n f ≡ false → (k : ℕ) → k < n → f k ≡ false
 none_of n f e k h = not_any (f k) (λ t. false≢true (sym e ∙ any_intro n f k h t))

@@ -1,10 +1,10 @@
 -- A loop that asks of each cell, one after the other, whether a test holds.
 --
 --   Scanned f n i bad             == of n cells the first i are asked, and bad says whether f holds of any of them
---   PartsScanned n f b c d e i bad == the same of the first i cells of each of four parts, which begin at 0, b, c and d and have e cells
 --
 -- Assumes nothing.
-use mathlib.Core.Path.{◌≡◌, refl, sym, ap₂, ◌∙◌}
+use mathlib.Core.Path.{◌≡◌, refl, sym, ap₂, ◌∙◌, subst}
+use mathlib.Core.List.{List}
 use mathlib.Core.Bool.{Bool, true, false, ◌||◌}
 use Prim.Native.Nat.{ℕ, ◌+◌, ◌*◌, ◌-◌, ◌/◌, ◌<◌, ◌≤◌}
 use native.Mathlib.Numerals.{add-one}
@@ -12,7 +12,9 @@ use native.Mathlib.Omega.{arith}
 use Rattle.line.specs.Mask.{any_below}
 use Rattle.line.proofs.Cells.{by_lt}
 use Rattle.line.proofs.Marks.{or_left, or_right, or_cases, any_intro, any_elim}
-use Rattle.refusal.specs.Parts.{part_size, part_start, in_parts}
+use Rattle.refusal.specs.Parts.{part_size, part_start, in_parts, Tells}
+use Rattle.std.proofs.lemmas.List.{get_or_default}
+use lib.ListN.{length, get_or}
 
 pub record Scanned (f : ℕ → Bool) (n i : ℕ) (bad : Bool) : Type 0 where
   pub count : i ≤ n
@@ -72,30 +74,7 @@ module _ (n : ℕ) (f : ℕ → Bool) where
   pub parts_all : any_below (part_size n) (in_parts n f) ≡ any_below n f
   parts_all = same_truth _ _ (λ t. any_elim (part_size n) (in_parts n f) t part_found) (λ t. any_elim n f t cell_found)
 
-pub record PartsScanned (n : ℕ) (f : ℕ → Bool) (b c d e i : ℕ) (bad : Bool) : Type 0 where
-  pub second : b ≡ part_start n 1
-  pub third : c ≡ part_start n 2
-  pub fourth : d ≡ part_start n 3
-  pub size : e ≡ part_size n
-  pub scan : Scanned (in_parts n f) (part_size n) i bad
-
-pub parts_none : {n b c d e : ℕ} {f : ℕ → Bool} → b ≡ part_start n 1 → c ≡ part_start n 2 → d ≡ part_start n 3 → e ≡ part_size n → PartsScanned n f b c d e 0 false
-parts_none p q r s = record { second = p; third = q; fourth = r; size = s; scan = scanned_none }
-
-module _ {n b c d e i : ℕ} {f : ℕ → Bool} {bad : Bool} (s : PartsScanned n f b c d e i bad) where
-  pub cells_in : i < e → (i < n) × (b + i < n) × (c + i < n) × (d + i < n)
-  cells_in h =
-      let k : i < part_size n = omega (arith, s.size) in
-      (omega (arith, size_most n), omega (arith, s.second, part_in n 1 i k), omega (arith, s.third, part_in n 2 i k), omega (arith, s.fourth, part_in n 3 i k))
-
-  pub parts_more : {x y z v : Bool} → i < e → x ≡ f i → y ≡ f (b + i) → z ≡ f (c + i) → v ≡ f (d + i) → PartsScanned n f b c d e (i + 1) (bad || ((x || y) || (z || v)))
-  parts_more h p q r t = record {
-    second = s.second;
-    third = s.third;
-    fourth = s.fourth;
-    size = s.size;
-    scan = scanned_more s.scan (omega (arith, s.size)) (rw (p, q, r, t, s.second, s.third, s.fourth));
-  }
-
-  pub parts_done : e ≤ i → bad ≡ any_below n f
-  parts_done h = scanned_all s.scan (omega (arith, s.size)) ∙ parts_all n f
+-- ---- a test that a caller hands in
+-- what it answered for a cell that was read
+pub told_of : {A : Type 0} (post : A → Bool → Type 0) (l : List A) (o : A) {f : ℕ → Bool} {k : ℕ} {x : A} {r : Bool} → Tells post o f l → k < length l → x ≡ get_or l k x → post x r → r ≡ f k
+told_of post l o {k = k} {x} {r} t h e p = t k h r (subst (λ y. post y r) (e ∙ get_or_default l k x o h) p)

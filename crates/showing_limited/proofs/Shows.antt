@@ -1,8 +1,8 @@
 -- Level 0 of a stream, in buffers of one length: the tests and the samples are the reader's. Assumes nothing.
 use mathlib.Core.Path.{◌≡◌, refl, sym, ap, ◌∙◌}
 use mathlib.Core.Bool.{Bool, true, false, ◌||◌}
-use mathlib.Core.List.{List, ◌∷◌}
-use Prim.Native.Nat.{ℕ, ◌*◌, ◌≤◌}
+use mathlib.Core.List.{List, ◌∷◌, ◌++◌}
+use Prim.Native.Nat.{ℕ, ◌*◌, ◌<◌, ◌≤◌}
 use native.Mathlib.Omega.{arith}
 use lib.Dec.{eqb}
 use lib.ListN.{length}
@@ -17,8 +17,11 @@ use Rattle.refusal.specs.Results.{Result}
 use Rattle.refusal.proofs.Ordered.{passes_test, numbered, first-append, accepted_both}
 use Rattle.samples.specs.Samples.{in_range}
 use Rattle.header.specs.Fields.{shot_of}
+use Rattle.header.specs.Header.{body_tests}
 use Rattle.codestream.specs.Stream.{area}
-use Rattle.codestream.specs.Reading.{header_tests, buffer_tests, filling_test, read_tests}
+use Rattle.shot.specs.Shots.{setting_tests}
+use Rattle.codestream.proofs.Accepted.{setting_passed}
+use Rattle.codestream.specs.Reading.{header_tests, shot_tests, buffer_tests, filling_test, read_tests}
 use Rattle.header_reader.specs.Answers.{header_for}
 use Rattle.header_reader.specs.declared.Header.{Header}
 use Rattle.exactness.specs.Shown.{shown_at, level_sample_at, area_tests, stream_tests}
@@ -62,3 +65,14 @@ full l n ok =
 
 pub rows_fit : (l : List ℕ) (n : ℕ) {h : Header} → 0 ≡ first (read_tests l (room_for l n) (room_for l n)) → h ≡ header_for (shot_of l) → h.width * h.height ≤ n
 rows_fit l n {h} e is = rw is (omega (arith, (room_small l n).1, full l (room_for l n) (ap (λ (f : ℕ). eqb f 0) (sym e))))
+
+-- a picture that was read has columns
+pub columns : (l : List ℕ) (n : ℕ) {h : Header} → h ≡ header_for (shot_of l) → 0 ≡ first (read_tests l n n) → 0 < h.width
+unfolding numbered
+columns l n e f =
+    let s = shot_of l in
+    let a = accepted_both (buffer_tests l n n) (header_tests l) refl (ap (λ (f : ℕ). eqb f 0) (sym f)) in
+    let b = accepted_both (setting_tests s.kernel s.levels s.depth s.width s.height ++ shot_tests s) (body_tests l) refl a.0 in
+    let c = accepted_both (shot_tests s) (setting_tests s.kernel s.levels s.depth s.width s.height) refl b.1 in
+    let w = (setting_passed s.kernel s.levels s.depth s.width s.height c.0).sides.width.0 in
+    rw e w

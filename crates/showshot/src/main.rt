@@ -1,13 +1,12 @@
 // Reads a stream of a picture of at most 64 by 64 samples from standard input, and prints its numbers and its shown rows, or its refusal.
 #![tactic(auto)]
 
-ghost use Rattle.std.specs.Prelude.{◌*◌, ◌≤◌, length, IfOk};
+ghost use Rattle.std.specs.Prelude.{◌*◌, ◌<◌, ◌≤◌, length};
 
-use decoder::{Body, Outcome};
+use decoder::Body;
 use header_reader::Header;
-use refusal::refusal_number;
 use showing_limited::show_limited;
-use std::io::Read;
+use standard_input::read_input;
 use std::{fmt, io};
 
 // More bytes than these are refused before any other test.
@@ -28,22 +27,6 @@ impl fmt::Display for Row<'_> {
     }
 }
 
-// Fills the buffer from standard input, and tells how many bytes it then has: fewer than fit where the input ends.
-fn read_input(rt: &impl Input, buffer: &mut [u8]) -> io::Result<usize>
-    ensures { IfOk result (λ n. n ≤ length buffer.old) }
-{
-    let mut reader = rt.reader();
-    let mut n = 0usize;
-    for _ in 0..u64::MAX {
-        let found = reader.read(&mut buffer[n..])?;
-        if found == 0 {
-            break;
-        }
-        n += found;
-    }
-    Ok(n)
-}
-
 // Kernel, J, W, H, marks, and 1 if the marked part is whole.
 fn print_numbers(rt: &impl Print, header: &Header, body: &Body) -> io::Result<()> {
     let kernel = header.kernel;
@@ -51,27 +34,26 @@ fn print_numbers(rt: &impl Print, header: &Header, body: &Body) -> io::Result<()
     let width = header.width;
     let height = header.height;
     let marks = body.marks;
-    let whole = u8::from(body.whole);
+    let whole = u8::from(body.region_mark.is_some());
     println!(rt; "{kernel} {levels} {width} {height} {marks} {whole}")
 }
 
 fn print_rows(rt: &impl Print, shown: &[u16], w: usize, h: usize) -> io::Result<()>
-    requires { w * h ≤ length shown.now }
+    requires columns { 0 < w }
+    requires inside { w * h ≤ length shown.now }
 {
-    for y in 0..h {
-        let start = y * w;
-        println!(rt; "{}", Row(&shown[start..start + w]))?;
+    for row in shown[..w * h].chunks_exact(w) {
+        println!(rt; "{}", Row(row))?;
     }
     Ok(())
 }
 
 fn print_shown(rt: &impl Print, stream: &[u8]) -> io::Result<()> {
     let mut shown = [0u16; 4096];
-    let reading = show_limited(stream, &mut shown);
-    match reading.outcome {
-        Outcome::Refused(refusal) => println!(rt; "refused {}", refusal_number(refusal)),
-        Outcome::Done(body) => {
-            print_numbers(rt, &reading.header, &body)?;
+    match show_limited(stream, &mut shown) {
+        Err(refusal) => println!(rt; "refused {}", u64::from(refusal)),
+        Ok(reading) => {
+            print_numbers(rt, &reading.header, &reading.body)?;
             print_rows(rt, &shown, reading.header.width, reading.header.height)
         }
     }

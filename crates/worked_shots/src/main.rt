@@ -1,8 +1,8 @@
 // Runs the entries on the worked examples of docs/FORMAT.md that are not proved as theorems, and prints what they give.
 #![tactic(auto)]
 
-use encoder::Outcome;
-use refusal::{Answer, Refusal, answer_number, refusal_number};
+use encoder::Lengths;
+use refusal::{Refusal, answer_number};
 use std::{fmt, io};
 
 // Numbers, with a space before each.
@@ -31,8 +31,8 @@ impl fmt::Display for Hex<'_> {
     }
 }
 
-fn print_answer(rt: &impl Print, a: Answer) -> io::Result<()> {
-    println!(rt; " answer {}", answer_number(a))
+fn print_answer(rt: &impl Print, answer: Result<(), Refusal>) -> io::Result<()> {
+    println!(rt; " answer {}", answer_number(&answer))
 }
 
 // Dropping 2 planes of -7 and 3, unmarked.
@@ -127,9 +127,9 @@ fn print_later_fields(rt: &impl Print, stream: &[u8; 40]) -> io::Result<()> {
 }
 
 // Prints what the writer answers, and gives the total length, 0 where nothing was written.
-fn print_written(rt: &impl Print, outcome: Outcome) -> io::Result<usize> {
-    match outcome {
-        Outcome::Written(lengths) => {
+fn print_written(rt: &impl Print, answer: Result<Lengths, Refusal>) -> io::Result<usize> {
+    match answer {
+        Ok(lengths) => {
             let total = lengths.total;
             let region_mark = lengths.region_mark;
             let marks = lengths.marks;
@@ -138,13 +138,13 @@ fn print_written(rt: &impl Print, outcome: Outcome) -> io::Result<usize> {
             )?;
             Ok(total)
         }
-        Outcome::TooShort(needed) => {
-            let number = refusal_number(Refusal::Room);
+        Err(Refusal::Room(needed)) => {
+            let number = u64::from(Refusal::Room(needed));
             println!(rt; " answer {number}, needed length {needed}")?;
             Ok(0)
         }
-        Outcome::Refused(refusal) => {
-            print_answer(rt, Answer::Refused(refusal))?;
+        Err(refusal) => {
+            println!(rt; " answer {}", u64::from(refusal))?;
             Ok(0)
         }
     }

@@ -115,4 +115,12 @@ mod tests {
         }
         assert!(header.contains(&format!("default: return \"{}\"", meaning(u64::MAX))));
     }
+
+    #[test]
+    fn the_refusals_of_the_library_say_the_same_words() {
+        let refusals = include_str!("../../../crates/refusal/src/lib.rt");
+        for (number, text) in REFUSALS {
+            assert!(refusals.contains(&format!("\"{text}\"")), "{number}: {text}");
+        }
+    }
 }
