@@ -11,11 +11,11 @@ returns-then-picture-count c = refused _ _ _ _ (search answered depth 20 fits 30
 pub returns-then-region-count : goal.returns-then-region-count
 returns-then-region-count c = refused _ _ _ _ (search answered depth 20 fits 3000)
 
-pub returns-then-found : goal.returns-then-found
-returns-then-found c = refused _ _ _ _ (search answered depth 20 fits 3000)
+pub returns-in_default : goal.returns-in_default
+returns-in_default c = let marks = c.in_default.ensures in refused _ _ _ _ (search answered depth 20 fits 3000)
 
 pub returns-then-found-eq0 : goal.returns-then-found-eq0
 returns-then-found-eq0 c = refused _ _ _ _ (search answered depth 20 fits 3000)
 
 pub returns : goal.returns
-returns c = figures _ _ _ _ (search answered depth 20 fits 3000) c.measure-found.ensures.number_value c.measure-found.ensures.sum_value
+returns c = figures _ _ _ _ (search answered depth 20 fits 3000) c.in-Some.ensures.1 c.in-Some.ensures.2
