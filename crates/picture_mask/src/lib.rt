@@ -57,7 +57,7 @@ fn col_pass(kernel: Kernel, buf: &mut [u8], strip: &mut [u8], stride: usize, w: 
     let most = 32768 / h;
     let mut x: usize = 0;
     while x < w {
-        let lanes = whole::least(most, w - x);
+        let lanes = most.min(w - x);
         columns(kernel, buf, strip, x, stride, h, lanes);
         x += lanes;
     }
