@@ -1,9 +1,9 @@
 // The brightness of a region: how many samples it has, their sum, and the sum divided by their number.
 #![tactic(auto)]
 
-ghost use Rattle.std.specs.Prelude.{◌≡◌, ◌+◌, ◌*◌, ◌≤◌, ltb, length, get_or};
-ghost use Rattle.line.specs.Cells.{choose, behind, total, count};
-ghost use Rattle.line.specs.Mask.{marked, any_below};
+ghost use Rattle.std.specs.Prelude.{◌≡◌, true, false, ◌*◌, ◌≤◌, MatchOption, length};
+ghost use Rattle.line.specs.Cells.{choose};
+ghost use Rattle.line.specs.Mask.{marked};
 ghost use Rattle.refusal.specs.Tests.{bad_mark};
 ghost use Rattle.brightness.specs.Brightness as regions;
 ghost use Rattle.brightness.specs.Answers.{numbers_of};
@@ -20,12 +20,11 @@ pub struct Figures {
     pub remainder: u64,
 }
 
-// How many samples are in the region, their sum, and whether a region byte is above 1.
+// How many samples are in the region, and their sum.
 #[derive(Clone, Copy)]
 struct Found {
     number: u64,
     sum: u64,
-    bad: bool,
 }
 
 // The brightness of a region of a shown picture of w by h samples.
@@ -38,8 +37,7 @@ pub fn brightness(w: usize, h: usize, picture: &[u16], region: &[u8]) -> Result<
     let count = w * h;
     refuse(picture.len() != count, Refusal::Length)?;
     refuse(region.len() != count, Refusal::Length)?;
-    let found = measure(w, h, picture, region);
-    refuse(found.bad, Refusal::Mark)?;
+    let found = measure(w, picture, region).ok_or(Refusal::Mark)?;
     refuse(found.number == 0, Refusal::NoSample)?;
     Ok(Figures {
         number: found.number,
@@ -49,51 +47,56 @@ pub fn brightness(w: usize, h: usize, picture: &[u16], region: &[u8]) -> Result<
     })
 }
 
-// One pass over picture and region: a row is in the cache while its number, its sum and its bytes are found, each in a loop that the compiler can
-// make as wide as its numbers allow.
-fn measure(w: usize, h: usize, picture: &[u16], region: &[u8]) -> Found
-    requires { Sized w h picture.now region.now }
-    ensures number_value { result.number ≡ regions.number region.now }
-    ensures sum_value { result.sum ≡ regions.sum picture.now region.now }
-    ensures bad_value { result.bad ≡ bad_mark region.now }
+// One pass over picture and region, of rows of w: a row is in the cache while its bytes, its number and its sum are found, each in a loop that the
+// compiler can make as wide as its numbers allow. None where a region byte is above 1.
+fn measure(w: usize, picture: &[u16], region: &[u8]) -> Option<Found>
+    requires { Sized w picture.now region.now }
+    ensures { MatchOption result (bad_mark region.now ≡ true) (λ found. (bad_mark region.now ≡ false) × (found.number ≡ regions.number region.now) × (found.sum ≡ regions.sum picture.now region.now)) }
 {
     let mut number: u64 = 0;
     let mut sum: u64 = 0;
+    for (samples, bytes) in picture.chunks_exact(w).zip(region.chunks_exact(w)) {
+        if row_bad(bytes) {
+            return None;
+        }
+        number += u64::from(row_number(bytes));
+        sum += u64::from(row_sum(samples, bytes));
+    }
+    Some(Found { number, sum })
+}
+
+// A region byte of a row is above 1.
+fn row_bad(bytes: &[u8]) -> bool
+    ensures { result ≡ bad_mark bytes.now }
+{
     let mut bad = false;
-    for y in 0..h {
-        let at = y * w;
-        number = number + row_number(region, at, w) as u64;
-        sum = sum + row_sum(picture, region, at, w) as u64;
-        bad = bad | row_bad(region, at, w);
+    for byte in bytes {
+        bad |= 1 < *byte;
     }
-    Found {
-        number: number,
-        sum: sum,
-        bad: bad,
-    }
+    bad
 }
 
 // How many samples of a row are in the region.
-fn row_number(region: &[u8], at: usize, w: usize) -> u16
-    requires { (w ≤ 4096) × (at + w ≤ length region.now) }
-    ensures { result ≡ count w (behind at (regions.has region.now)) }
+fn row_number(bytes: &[u8]) -> u16
+    requires { length bytes.now ≤ 4096 }
+    ensures { result ≡ regions.number bytes.now }
 {
     let mut number: u16 = 0;
-    for i in 0..w {
-        number = number + line::one(region[at + i] == 1) as u16;
+    for byte in bytes {
+        number += u16::from(*byte == 1);
     }
     number
 }
 
 // The sum of a row's samples that are in the region.
-fn row_sum(picture: &[u16], region: &[u8], at: usize, w: usize) -> u32
-    requires { (w ≤ 4096) × (at + w ≤ length picture.now) × (at + w ≤ length region.now) }
-    ensures value { result ≡ total w (behind at (regions.region_sample picture.now region.now)) }
-    ensures upper_bound { result ≤ 4096 * 65535 }
+fn row_sum(samples: &[u16], bytes: &[u8]) -> u32
+    requires { (length bytes.now ≤ 4096) × (length samples.now ≡ length bytes.now) }
+    ensures value { result ≡ regions.sum samples.now bytes.now }
+    ensures upper_bound { result ≤ length bytes.now * 65535 }
 {
     let mut sum: u32 = 0;
-    for i in 0..w {
-        sum = sum + kept(picture[at + i], region[at + i]);
+    for (sample, byte) in samples.iter().zip(bytes) {
+        sum += kept(*sample, *byte);
     }
     sum
 }
@@ -103,17 +106,5 @@ fn kept(sample: u16, byte: u8) -> u32
     ensures value { result ≡ choose (marked byte) sample 0 }
     ensures upper_bound { result ≤ 65535 }
 {
-    if byte == 1 { sample as u32 } else { 0 }
-}
-
-// A region byte of a row is above 1.
-fn row_bad(region: &[u8], at: usize, w: usize) -> bool
-    requires { at + w ≤ length region.now }
-    ensures { result ≡ any_below w (behind at (λ i. ltb 1 (get_or region.now i 0))) }
-{
-    let mut bad = false;
-    for i in 0..w {
-        bad = bad | (1 < region[at + i]);
-    }
-    bad
+    if byte == 1 { u32::from(sample) } else { 0 }
 }

@@ -125,9 +125,8 @@ fn put_rectangles(out: &mut [u8], numbers: &[u32])
     requires by_index { (i : ℕ) → i < length numbers.now → get_or numbers.now i 0 < 65536 }
     ensures { Laid 14 (laid (rectangle_fields numbers.now)) out.old out.new }
 {
-    for i in 0..numbers.len() {
-        let x = numbers[i] as usize;
-        put_two(out, 14 + 2 * i, x);
+    for (i, x) in numbers.iter().enumerate() {
+        put_two(out, 14 + 2 * i, *x as usize);
     }
 }
 

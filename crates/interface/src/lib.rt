@@ -40,12 +40,9 @@ fn give(values: &[u64], at: usize, results: &mut [u64])
     requires { at + length values.now < 2 ^ 64 }
     ensures { GivenAt at values.now results.old results.new }
 {
-    for i in 0..values.len() {
-        if results.len() <= at + i {
-            continue;
-        }
-        results[at + i] = values[i];
-    }
+    let from = at.min(results.len());
+    let n = values.len().min(results.len() - from);
+    results[from..from + n].copy_from_slice(&values[..n]);
 }
 
 #[unsafe(no_mangle)]
@@ -229,21 +226,11 @@ fn header_read(answer: &Result<Reading, Refusal>) -> Header
     }
 }
 
-fn widened(x: u32) -> u64
-    ensures { result ≡ x }
-{
-    x as u64
-}
-
 // Rectangle numbers as result numbers.
 fn wide(numbers: [u32; 128]) -> [u64; 128]
     ensures { result ≡ listed 128 (λ i. get_or numbers i 0) }
 {
-    let mut values = [0u64; 128];
-    for i in 0..128 {
-        values[i] = widened(numbers[i]);
-    }
-    values
+    numbers.map(|number| u64::from(number))
 }
 
 // The numbers of a header into the caller's array from `at` on.

@@ -39,7 +39,8 @@ fn join_all(one: &[u8], other: &[u8], joined: &mut [u8])
     requires marks_2 { Marks (length joined.old) other.now }
     ensures { Result 0 true (join_byte one.now other.now) joined.old joined.new }
 {
-    for i in 0..joined.len() {
-        joined[i] = one[i] | other[i];
+    // No zip: std says only the length of what is written through one.
+    for (i, mark) in joined.iter_mut().enumerate() {
+        *mark = one[i] | other[i];
     }
 }

@@ -21,11 +21,10 @@ fn row_pass(kernel: Kernel, buf: &mut [u8], line: &mut [u16], stride: usize, w: 
     requires in_bounds { 1024 ≤ length line.old }
     ensures { picture 0 stride buf.new ≡ row_pass (mask_line_bytes kernel) w h (picture 0 stride buf.old) }
 {
-    let low = w - w / 2;
     for y in 0..h {
         let at = y * stride;
         transfer::bytes::part_row(buf, line, at, w);
-        line_mask::mask(kernel, buf, at, at + low, low, w / 2, 1);
+        line_mask::mask(kernel, buf, line_mask::Lines::parted(at, w, 1));
     }
 }
 
@@ -44,9 +43,8 @@ fn columns(
     requires binary { Binary buf.old }
     ensures { Lines (mask_line_bytes kernel) 0 start stride n lanes buf.old buf.new }
 {
-    let low = n - n / 2;
     transfer::bytes::take(buf, strip, start, stride, n, lanes);
-    line_mask::mask(kernel, strip, 0, low * lanes, low, n / 2, lanes);
+    line_mask::mask(kernel, strip, line_mask::Lines::parted(0, n, lanes));
     transfer::bytes::put(strip, buf, start, stride, n, lanes);
 }
 
@@ -59,7 +57,7 @@ fn col_pass(kernel: Kernel, buf: &mut [u8], strip: &mut [u8], stride: usize, w: 
     let most = 32768 / h;
     let mut x: usize = 0;
     while x < w {
-        let lanes = whole::least(most, w - x);
+        let lanes = most.min(w - x);
         columns(kernel, buf, strip, x, stride, h, lanes);
         x += lanes;
     }
@@ -115,10 +113,9 @@ fn placed_rows(kernel: Kernel, marks: &mut [u8], w: usize, h: usize)
     requires { Whole w h marks.old }
     ensures { picture 0 w marks.new ≡ row_pass (on_woven (mask_line_bytes kernel)) w h (picture 0 w marks.old) }
 {
-    let low = w - w / 2;
     for y in 0..h {
         let at = y * w;
-        line_mask::mask(kernel, marks, at, at + low, low, w / 2, 1);
+        line_mask::mask(kernel, marks, line_mask::Lines::parted(at, w, 1));
     }
 }
 
@@ -127,8 +124,7 @@ fn placed_cols(kernel: Kernel, marks: &mut [u8], w: usize, h: usize)
     requires { Whole w h marks.old }
     ensures { picture 0 w marks.new ≡ col_pass (on_woven (mask_line_bytes kernel)) w h (picture 0 w marks.old) }
 {
-    let low = h - h / 2;
-    line_mask::mask(kernel, marks, 0, low * w, low, h / 2, w);
+    line_mask::mask(kernel, marks, line_mask::Lines::parted(0, h, w));
 }
 
 // Makes, in place, the mask of the region that a buffer holds placed.

@@ -4,7 +4,7 @@ use mathlib.Core.Path.{◌≡◌, refl, sym, ap, ◌∙◌}
 use mathlib.Core.Bool.{Bool, true, false, ◌||◌}
 use mathlib.Core.List.{List}
 use Prim.Native.Nat.{ℕ, ◌+◌, ◌*◌, ◌-◌, ◌/◌, ◌%◌, ◌<◌, ◌≤◌}
-use native.Mathlib.Nat.{div-add-mod', mod-lt, div-lt_iff_lt-mul}
+use native.Mathlib.Nat.{div-add-mod', mod-lt, div-lt_iff_lt-mul, mul-le-mul_right}
 use native.Mathlib.Omega.{arith}
 use lib.Arith.{digits_div, digits_mod}
 use lib.ListN.{length, get_or}
@@ -125,7 +125,7 @@ module _ (x y w W H : ℕ) where
         (λ e. let p = box_elim x y w 0 (source W (i % W)) (source H (i / W)) (sym (box_placed 0 i h) ∙ e) in omega arith);
   }
 
-  pub placed_more : {l l₁ l₂ l₃ : List ℕ} (k : ℕ) → x + w ≤ W → y + k < H → DrawnPlaced x y w k W H l l₁
+  placed_more : {l l₁ l₂ l₃ : List ℕ} (k : ℕ) → x + w ≤ W → y + k < H → DrawnPlaced x y w k W H l l₁
       → Filled 1 (woven H (λ i. i) (y + k) * W + (x + 1) / 2) ((x + w + 1) / 2 - (x + 1) / 2) l₁ l₂
       → Filled 1 (woven H (λ i. i) (y + k) * W + (W - W / 2) + x / 2) ((x + w) / 2 - x / 2) l₂ l₃ → DrawnPlaced x y w (k + 1) W H l l₃
   placed_more {l} {l₁} {l₂} {l₃} k fit low p f g =
@@ -140,6 +140,20 @@ module _ (x y w W H : ℕ) where
             ∙ twice (odds i || evens i) b 1 (get_or l i 0)
             ∙ ap (λ q. choose q 1 (get_or l i 0)) (row_placed x y w W H fit k low i h ∙ sym (box_placed (k + 1) i h));
       }
+
+  -- row n of the picture, which ends at row m
+  pub placed_row : {l l₁ l₂ l₃ : List ℕ} {n m : ℕ} → x + w ≤ W → y ≤ n → n < H → m ≡ woven H (λ i. i) n → DrawnPlaced x y w (n - y) W H l l₁
+      → Filled 1 (m * W + (x + 1) / 2) ((x + w + 1) / 2 - (x + 1) / 2) l₁ l₂ → Filled 1 (m * W + (W - W / 2) + x / 2) ((x + w) / 2 - x / 2) l₂ l₃
+      → DrawnPlaced x y w (n + 1 - y) W H l l₃
+  placed_row {n = n} {m} fit from low e p f g =
+      let k : y + (n - y) ≡ n = omega arith in
+      let more : n - y + 1 ≡ n + 1 - y = omega arith in
+      let q : m ≡ woven H (λ i. i) (y + (n - y)) = e ∙ ap (woven H (λ i. i)) (sym k) in
+      rw more at (placed_more (n - y) fit (omega arith) p (rw q at f) (rw q at g))
+
+  -- a row of the picture is inside it
+  pub row_ends : {n m : ℕ} → n < H → m ≡ woven H (λ i. i) n → m * W + W ≤ H * W
+  row_ends {n} {m} low e = let p = place_lt H n low in omega (arith, mul-le-mul_right {m = m + 1} {n = H} W (omega arith))
 
   pub placed_box : {l l' : List ℕ} {k : ℕ} → DrawnPlaced x y w k W H l l' → (i : ℕ) → i < H * W
       → get_or l' i 0 ≡ choose (in_box x y w k (source W (i % W)) (source H (i / W))) 1 (get_or l i 0)

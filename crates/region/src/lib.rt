@@ -1,13 +1,15 @@
 // The region that rectangles draw.
 #![tactic(auto)]
 
-ghost use Rattle.std.specs.Prelude.{◌≡◌, true, ◌+◌, ◌*◌, ◌%◌, ◌<◌, ◌≤◌, length};
+ghost use Rattle.std.specs.Prelude.{◌≡◌, true, ◌+◌, ◌*◌, ◌%◌, ◌<◌, ◌≤◌, length, get_or};
+ghost use Rattle.std.specs.List.{list_any};
 ghost use Rattle.grid.specs.Placed.{woven};
 ghost use Rattle.refusal.specs.Numbers.{answer_number, first, accepted};
 ghost use Rattle.refusal.specs.Results.{Result};
 ghost use Rattle.refusal.specs.Tests as tests;
 ghost use Rattle.region.specs.Region.{region_byte, region_tests};
 ghost use Rattle.region.specs.Drawing.{Filled, Drawn, Inside, placed_byte, DrawnPlaced, Framed};
+ghost use Rattle.region.specs.Inner.{rectangle_of};
 
 use refusal::{Refusal, refuse};
 
@@ -35,33 +37,86 @@ pub fn bad_numbers(numbers: &[u32]) -> bool
     (n % 4 != 0) | (32 < n / 4)
 }
 
-// A rectangle is empty or not wholly inside. The sums are taken in 64 bits, where they fit.
-fn bad_rectangle(w: usize, h: usize, x: u32, y: u32, across: u32, down: u32) -> bool
-    ensures { result ≡ tests.bad_rectangle w h x y across down }
-{
-    let right = x as usize + across as usize;
-    let bottom = y as usize + down as usize;
-    (across == 0) | (down == 0) | (w < right) | (h < bottom)
+// A rectangle of a picture.
+#[derive(Clone, Copy)]
+struct Rectangle {
+    x: u32,
+    y: u32,
+    across: u32,
+    down: u32,
+}
+
+impl From<[u32; 4]> for Rectangle {
+    ghost from_gives = { λ numbers rectangle. rectangle ≡ rectangle_of numbers };
+
+    fn from([x, y, across, down]: [u32; 4]) -> Rectangle {
+        Rectangle { x, y, across, down }
+    }
+}
+
+impl Rectangle {
+    // The column behind its last one, and the row behind its last one: sums in 64 bits, where they fit.
+    fn right(self) -> usize
+        ensures { result ≡ self.x + self.across }
+    {
+        self.x as usize + self.across as usize
+    }
+
+    fn bottom(self) -> usize
+        ensures { result ≡ self.y + self.down }
+    {
+        self.y as usize + self.down as usize
+    }
+
+    // It is empty or not wholly inside.
+    fn is_bad(self, w: usize, h: usize) -> bool
+        ensures { result ≡ tests.bad_rectangle w h self.x self.y self.across self.down }
+    {
+        (self.across == 0) | (self.down == 0) | (w < self.right()) | (h < self.bottom())
+    }
+
+    // Sets its samples, row by row.
+    fn draw(self, w: usize, region: &mut [u8])
+        requires { (self.x + self.across ≤ w) × ((self.y + self.down) * w ≤ length region.old) }
+        ensures { Drawn self.x self.y self.across self.down w region.old region.new }
+    {
+        for y in self.y as usize..self.bottom() {
+            fill(region, y * w + self.x as usize, self.across as usize, 1);
+        }
+    }
+
+    // Sets its samples, each where its coefficient of the first level ends: of each row a run of evens and a run of odds.
+    #[tactic(auto, using(crate::proofs::Placed::row_ends))]
+    fn draw_placed(self, w: usize, h: usize, region: &mut [u8])
+        requires across_bound { (self.x + self.across ≤ w) × (self.y + self.down ≤ h) }
+        requires region_len { length region.old ≡ h * w }
+        ensures { DrawnPlaced self.x self.y self.across self.down w h region.old region.new }
+    {
+        let left = self.x as usize;
+        let right = self.right();
+        let even = (left + 1) / 2;
+        let odd = left / 2;
+        for y in self.y as usize..self.bottom() {
+            let at = place(y, h) * w;
+            fill(region, at + even, (right + 1) / 2 - even, 1);
+            fill(region, at + (w - w / 2) + odd, right / 2 - odd, 1);
+        }
+    }
 }
 
 // Any of the rectangles is bad.
 pub fn bad_rectangles(numbers: &[u32], w: usize, h: usize) -> bool
     ensures { result ≡ tests.bad_rectangles w h numbers.now }
 {
-    let mut bad = false;
-    for r in 0..numbers.len() / 4 {
-        let k = 4 * r;
-        bad = bad
-            | bad_rectangle(
-                w,
-                h,
-                numbers[k],
-                numbers[k + 1],
-                numbers[k + 2],
-                numbers[k + 3],
-            );
-    }
-    bad
+    any_bad(numbers.as_chunks::<4>().0, w, h)
+}
+
+fn any_bad(rectangles: &[[u32; 4]], w: usize, h: usize) -> bool
+    ensures { result ≡ list_any (λ r. tests.bad_rectangle w h (get_or r 0 0) (get_or r 1 0) (get_or r 2 0) (get_or r 3 0)) rectangles.now }
+{
+    rectangles
+        .iter()
+        .any(|rectangle| Rectangle::from(*rectangle).is_bad(w, h))
 }
 
 // Clears the region, and draws each rectangle.
@@ -70,16 +125,8 @@ pub fn draw(numbers: &[u32], w: usize, region: &mut [u8])
     ensures { Result 0 true (region_byte numbers.now w) region.old region.new }
 {
     clear(region);
-    for r in 0..numbers.len() / 4 {
-        let k = 4 * r;
-        rectangle(
-            region,
-            w,
-            numbers[k],
-            numbers[k + 1],
-            numbers[k + 2],
-            numbers[k + 3],
-        );
+    for rectangle in numbers.as_chunks::<4>().0 {
+        Rectangle::from(*rectangle).draw(w, region);
     }
 }
 
@@ -87,24 +134,11 @@ pub fn draw(numbers: &[u32], w: usize, region: &mut [u8])
 pub fn clear(region: &mut [u8])
     ensures { Filled 0 0 (length region.old) region.old region.new }
 {
-    fill(region, 0, region.len(), 0);
-}
-
-// Sets the samples of a rectangle, row by row.
-fn rectangle(region: &mut [u8], w: usize, x: u32, y: u32, across: u32, down: u32)
-    requires { (x + across ≤ w) × ((y + down) * w ≤ length region.old) }
-    ensures { Drawn x y across down w region.old region.new }
-{
-    let left = x as usize;
-    let top = y as usize;
-    let n = across as usize;
-    let rows = down as usize;
-    for k in 0..rows {
-        fill(region, (top + k) * w + left, n, 1);
-    }
+    region.fill(0);
 }
 
 // Where cell n of a line of `side` cells ends, its evens in front and its odds behind.
+#[tactic(auto, using(crate::proofs::Placed::place_even, crate::proofs::Placed::place_odd))]
 fn place(n: usize, side: usize) -> usize
     requires { n < side }
     ensures { result ≡ woven side (λ i. i) n }
@@ -116,42 +150,14 @@ fn place(n: usize, side: usize) -> usize
     }
 }
 
-// Sets the samples of a rectangle, each where its coefficient of the first level ends: of each row a run of evens and a run of odds.
-fn rectangle_placed(region: &mut [u8], w: usize, h: usize, x: u32, y: u32, across: u32, down: u32)
-    requires across_bound { (x + across ≤ w) × (y + down ≤ h) }
-    requires region_len { length region.old ≡ h * w }
-    ensures { DrawnPlaced x y across down w h region.old region.new }
-{
-    let left = x as usize;
-    let right = left + across as usize;
-    let top = y as usize;
-    let rows = down as usize;
-    let even = (left + 1) / 2;
-    let odd = left / 2;
-    for k in 0..rows {
-        let at = place(top + k, h) * w;
-        fill(region, at + even, (right + 1) / 2 - even, 1);
-        fill(region, at + (w - w / 2) + odd, right / 2 - odd, 1);
-    }
-}
-
 // Clears the region, and draws each rectangle placed.
 pub fn draw_placed(numbers: &[u32], w: usize, h: usize, region: &mut [u8])
     requires { Framed numbers.now w h (length region.old) }
     ensures { Result 0 true (placed_byte numbers.now w h) region.old region.new }
 {
     clear(region);
-    for r in 0..numbers.len() / 4 {
-        let k = 4 * r;
-        rectangle_placed(
-            region,
-            w,
-            h,
-            numbers[k],
-            numbers[k + 1],
-            numbers[k + 2],
-            numbers[k + 3],
-        );
+    for rectangle in numbers.as_chunks::<4>().0 {
+        Rectangle::from(*rectangle).draw_placed(w, h, region);
     }
 }
 
@@ -160,10 +166,5 @@ fn fill(region: &mut [u8], at: usize, n: usize, byte: u8)
     requires { at + n ≤ length region.old }
     ensures { Filled byte at n region.old region.new }
 {
-    let end = at + n;
-    let mut i = at;
-    while i < end {
-        region[i] = byte;
-        i += 1;
-    }
+    region[at..at + n].fill(byte);
 }

@@ -35,8 +35,8 @@ pub fn show_all(depth: usize, undone: &[i32], shown: &mut [u16])
     ensures { Result 0 true (λ i. in_range depth (get_or undone.now i (pos 0))) shown.old shown.new }
 {
     let top = (refusal::power(depth) - 1) as u16;
-    for i in 0..shown.len() {
-        shown[i] = in_range(top, undone[i]);
+    for (i, sample) in shown.iter_mut().enumerate() {
+        *sample = in_range(top, undone[i]);
     }
 }
 
@@ -44,13 +44,7 @@ pub fn show_all(depth: usize, undone: &[i32], shown: &mut [u16])
 fn in_range(top: u16, z: i32) -> u16
     ensures { result ≡ min (up z) top }
 {
-    if z > top as i32 {
-        top
-    } else if z < 0 {
-        0
-    } else {
-        z as u16
-    }
+    z.clamp(0, i32::from(top)) as u16
 }
 
 // Drops q planes of each coefficient of a plane that the mask does not mark, in place.
@@ -78,8 +72,8 @@ fn truncate_all(q: usize, mask: &[u8], plane: &mut [i32])
     requires accepted { Accepted plane.old }
     ensures { Result (pos 0) true (λ i. truncated q (marked (get_or mask.now i 0)) (get_or plane.old i (pos 0))) plane.old plane.new }
 {
-    for i in 0..plane.len() {
-        plane[i] = truncate_one(q, mask[i], plane[i]);
+    for (i, z) in plane.iter_mut().enumerate() {
+        *z = truncate_one(q, mask[i], *z);
     }
 }
 
@@ -96,13 +90,8 @@ fn drop_planes(q: usize, z: i32) -> i32
     requires { (q ≤ 22) × (nat_abs z < 2 ^ 22) }
     ensures { result ≡ dropped q z }
 {
-    if z < 0 {
-        let m = keep((0 - z) as u32, q);
-        0 - m as i32
-    } else {
-        let m = keep(z as u32, q);
-        m as i32
-    }
+    let m = keep(z.unsigned_abs(), q) as i32;
+    if z < 0 { -m } else { m }
 }
 
 // A magnitude with its lowest q bits cleared.

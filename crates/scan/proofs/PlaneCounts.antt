@@ -1,7 +1,8 @@
 -- The number of bit planes of a plane. Assumes nothing.
 use mathlib.Core.Path.{◌≡◌}
 use mathlib.Core.List.{List}
-use Prim.Native.Nat.{ℕ, zero, suc, ◌+◌, ◌-◌, ◌^◌, ◌<◌, ◌≤◌}
+use Prim.Native.Nat.{ℕ, zero, suc, ◌+◌, ◌*◌, ◌-◌, ◌^◌, ◌<◌, ◌≤◌}
+use native.Mathlib.Numerals.{add-one}
 use native.Mathlib.Omega.{arith}
 use lib.Dec.{leb}
 use lib.IntN.{ℤ}
@@ -57,6 +58,16 @@ module _ (m : ℕ) where
   digits_most b h = by_lt b (digits m)
       (λ lt. absurd (omega (arith, digits_least (omega arith), pow_mono {i = b} {j = digits m - 1} (omega arith))))
       (λ ge. ge)
+
+  -- the digits are one more than the largest power that is not above the number
+  pub digits_power : (k : ℕ) → m < 2 ^ 32 → 2 ^ k ≤ m → m < 2 * 2 ^ k → k + 1 ≡ digits m
+  digits_power k h low high =
+      let more : k < digits m = by_lt k (digits m) (λ lt. lt) (λ ge. absurd (omega (arith, digits_above h, pow_mono {i = digits m} {j = k} ge))) in
+      let most : digits m ≤ k + 1 = digits_most (k + 1) (rw (add-one k) (omega arith)) in
+      omega arith
+
+  pub digits_zero : m ≡ 0 → 0 ≡ digits m
+  digits_zero e = let none : digits m ≤ 0 = digits_most 0 (omega arith) in omega arith
 
 -- ---- a plane
 module _ (l : List ℤ) where

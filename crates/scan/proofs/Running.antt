@@ -13,8 +13,9 @@ use lib.Dec.{ltb}
 use lib.IntN.{ℤ, pos, nat_abs}
 use lib.ListN.{length, take}
 use lib.Seq.{take-suc, take_all}
-use Rattle.line.specs.Cells.{choose, cell}
-use Rattle.line.proofs.Counts.{Counted, counted_none, counted_more}
+use Rattle.line.specs.Cells.{cell}
+use mir.Val.{bool_byte}
+use Rattle.line.proofs.Counts.{Counted, counted_none, counted_more, test_one}
 use Rattle.scan.specs.Scan.{largest}
 
 -- ---- the largest so far
@@ -34,10 +35,10 @@ pub scanned_none : {l : List ℤ} → Scanned l 0 0 0
 unfolding largest
 scanned_none = record { largest_so_far = refl; signs_so_far = counted_none }
 
-pub scanned_more : {l : List ℤ} {i m s c b : ℕ} → Scanned l i m s → i < length l → c ≡ nat_abs (cell l i) → b ≡ choose (ltb 0 c) 1 0 → Scanned l (i + 1) (max m c) (s + b)
-scanned_more {l} {i} {m} {s} {c} {b} p h e g = record {
-  largest_so_far = rw (add-one i, take-suc l i (pos 0) h, largest_more (take i l) (cell l i)) (ap₂ max p.largest_so_far e);
-  signs_so_far = counted_more p.signs_so_far h (rw e at g);
+pub scanned_more : {l : List ℤ} {i m s c b m' : ℕ} → Scanned l i m s → i < length l → m' ≡ max m c → c ≡ nat_abs (cell l i) → b ≡ bool_byte (ltb 0 c) → Scanned l (i + 1) m' (s + b)
+scanned_more {l} {i} {m} {s} {c} {b} p h f e g = record {
+  largest_so_far = f ∙ rw (add-one i, take-suc l i (pos 0) h, largest_more (take i l) (cell l i)) (ap₂ max p.largest_so_far e);
+  signs_so_far = counted_more p.signs_so_far h (rw e at (g ∙ test_one (ltb 0 c)));
 }
 
 pub scanned_all : {l : List ℤ} {i m s : ℕ} → Scanned l i m s → length l ≤ i → m ≡ largest l

@@ -1,9 +1,8 @@
--- `brightness::row_bad` asks whether a region byte of a row is above 1. The loop's invariant: i samples are passed. Assumes nothing.
+-- `brightness::row_bad` asks whether a region byte of a row is above 1. Assumes nothing.
 use lib.Dec.{ltb}
-use lib.ListN.{get_or}
-use Rattle.line.specs.Cells.{behind}
+use lib.ListN.{length, get_or}
 use Rattle.refusal.proofs.Scans.{Scanned}
 use Rattle.brightness.proofs.row_bad.Given as goal
 
-abbrev pub invariant-loop-i : goal.invariant-loop-i
-invariant-loop-i l = Scanned (behind l.at (λ k. ltb 1 (get_or l.region k 0))) l.w l.i l.bad
+abbrev pub invariant-loop-byte : goal.invariant-loop-byte
+invariant-loop-byte l = Scanned (λ i. ltb 1 (get_or l.bytes i 0)) (length l.bytes) l.byte-index l.bad

@@ -21,5 +21,5 @@ module _ (M K : ℕ) (B : Line Bool) (n : ℕ) where
   pair_kernel FiveThree h = elim h [ inl e ↦ (cc, cc) | inr o ↦ elim o [ inl e ↦ (cc, cc) | inr e ↦ (cc, cc) ] ]
 
 pub returns-in-S : goal.returns-in-S
-returns-in-S c = let g = c.args in let k = c.in-S.is in
-    marks_as (rw c.reach.ensures at c.mask_pairs.ensures) (λ n j h. (pair_kernel g.lows g.highs _ n g.kernel k).0) (λ n j h. (pair_kernel g.lows g.highs _ n g.kernel k).1)
+returns-in-S c = let g = c.args.lines in let k = c.in-S.is in
+    marks_as (rw c.reach.ensures at c.mask_pairs.ensures) (λ n j h. (pair_kernel g.lows g.highs _ n c.args.kernel k).0) (λ n j h. (pair_kernel g.lows g.highs _ n c.args.kernel k).1)

@@ -13,7 +13,7 @@ rows c lows highs d le fit some h = (mul-le-mul_right _ (omega arith), omega (ar
 pub join_marks-requires-then-d-lows-clause-n_in_bounds :
     goal.join_marks-requires-then-d-lows-clause-n_in_bounds
 join_marks-requires-then-d-lows-clause-n_in_bounds c =
-    let g = c.args in let r = rows g.lanes g.lows g.highs (c.loop-k.k + 1) c.requires.pairs c.requires.alone (omega arith) (omega arith) in omega arith
+    let g = c.args.lines in let r = rows g.lanes g.lows g.highs (c.loop-k.k + 1) c.requires.pairs c.requires.alone (omega arith) (omega arith) in omega arith
 
 pub loop-k-preserved : goal.loop-k-preserved
 loop-k-preserved c = let l = c.loop-k in (

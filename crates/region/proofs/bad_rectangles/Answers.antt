@@ -1,14 +1,7 @@
-use native.Mathlib.Omega.{arith}
-use Rattle.refusal.specs.Tests.{bad_rectangles}
-use Rattle.refusal.proofs.Scans.{scanned_none, scanned_more, scanned_all}
+-- `region::bad_rectangles` is the test of refusal 8. Assumes nothing.
+use mathlib.Core.Path.{◌∙◌}
+use Rattle.region.proofs.Chunks.{any_rectangle}
 use Rattle.region.proofs.bad_rectangles.Goals as goal
 
-pub loop-r-init : goal.loop-r-init
-loop-r-init c = scanned_none
-
-pub loop-r-preserved : goal.loop-r-preserved
-loop-r-preserved c = scanned_more c.loop-r.invariant (omega arith) c.bad_rectangle-bad.ensures
-
 pub returns : goal.returns
-unfolding bad_rectangles
-returns c = scanned_all c.loop-r.invariant (omega arith)
+returns c = rw c.as_chunks.ensures.front at c.any_bad.ensures ∙ any_rectangle c.args.w c.args.h c.args.numbers.now

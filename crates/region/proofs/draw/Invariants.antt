@@ -4,5 +4,5 @@ use lib.ListN.{length}
 use Rattle.region.proofs.Painted.{Painted}
 use Rattle.region.proofs.draw.Given as goal
 
-abbrev pub invariant-loop-r : goal.invariant-loop-r
-invariant-loop-r l = Painted l.numbers (λ i. i % l.w) (λ i. i / l.w) l.r (length l.initial.region) l.region
+abbrev pub invariant-loop-rectangle : goal.invariant-loop-rectangle
+invariant-loop-rectangle l = Painted l.numbers (λ i. i % l.w) (λ i. i / l.w) l.rectangle-index (length l.initial.region) l.region

@@ -1,18 +1,11 @@
+-- `scan::digits` is the number of binary digits. Assumes nothing.
+use mathlib.Core.Path.{◌∙◌}
 use native.Mathlib.Omega.{arith}
-use lib.Dec.{leb}
-use Rattle.scan.specs.Scan.{digits}
-use Rattle.line.proofs.Counts.{counted_none, counted_more, counted_all, counted_next}
+use Rattle.scan.proofs.PlaneCounts.{digits_power, digits_zero}
 use Rattle.scan.proofs.digits.Goals as goal
 
-pub loop-t-init : goal.loop-t-init
-loop-t-init c = counted_none
+pub returns-then-m-eq0 : goal.returns-then-m-eq0
+returns-then-m-eq0 c = digits_zero c.args.m (omega arith)
 
-pub overflow_add-n : goal.overflow_add-n
-overflow_add-n c = omega (arith, counted_next (leb c.power.result c.args.m) c.loop-t.invariant c.one-n.ensures)
-
-pub loop-t-preserved : goal.loop-t-preserved
-loop-t-preserved c = counted_more c.loop-t.invariant (omega arith) (rw c.power.ensures at c.one-n.ensures)
-
-pub returns : goal.returns
-unfolding digits
-returns c = counted_all c.loop-t.invariant (omega arith)
+pub returns-else-m-eq0 : goal.returns-else-m-eq0
+returns-else-m-eq0 c = c.from.ensures ∙ digits_power c.args.m c.ilog2.result (omega arith) c.ilog2.ensures.power_le c.ilog2.ensures.next_power_gt

@@ -1,20 +1,23 @@
+use mathlib.Core.Path.{◌∙◌}
 use native.Mathlib.Omega.{arith}
 use lib.Dec.{eqb}
 use lib.ListN.{get_or}
 use Rattle.bitplane.proofs.Classes.{class_test}
 use Rattle.scan.specs.Inner.{mark_count}
-use Rattle.line.proofs.Counts.{counted_none, counted_more, counted_all, counted_next}
+use Rattle.line.proofs.Counts.{counted_none, counted_more, counted_all, counted_next, test_one}
 use Rattle.scan.proofs.mark_count.Goals as goal
 
-pub loop-i-init : goal.loop-i-init
-loop-i-init c = counted_none
+pub loop-mark-init : goal.loop-mark-init
+loop-mark-init c = counted_none
 
 pub overflow_add-n : goal.overflow_add-n
-overflow_add-n c = omega (arith, counted_next (eqb (get_or c.args.mask.now c.loop-i.i 0) 1) c.loop-i.invariant c.one-n.ensures)
+overflow_add-n c = let marked = eqb (get_or c.args.mask.now c.loop-mark.mark-index 0) 1 in
+    omega (arith, counted_next marked c.loop-mark.invariant (c.from-n.ensures ∙ test_one marked))
 
-pub loop-i-preserved : goal.loop-i-preserved
-loop-i-preserved c = counted_more c.loop-i.invariant (omega arith) (rw (class_test c.args.mask.now 1 c.loop-i.i (omega arith)) at c.one-n.ensures)
+pub loop-mark-preserved : goal.loop-mark-preserved
+loop-mark-preserved c = let mask = c.args.mask.now in let i = c.loop-mark.mark-index in
+    counted_more c.loop-mark.invariant (omega arith) (rw (class_test mask 1 i (omega arith)) at (c.from-n.ensures ∙ test_one (eqb (get_or mask i 0) 1)))
 
 pub returns : goal.returns
 unfolding mark_count
-returns c = counted_all c.loop-i.invariant (omega arith)
+returns c = counted_all c.loop-mark.invariant (omega arith)
