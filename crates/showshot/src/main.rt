@@ -5,7 +5,7 @@ ghost use Rattle.std.specs.Prelude.{◌*◌, ◌<◌, ◌≤◌, length};
 
 use decoder::{Body, Outcome};
 use header_reader::Header;
-use refusal::refusal_number;
+use refusal::{Refusal, refusal_number};
 use showing_limited::show_limited;
 use standard_input::read_input;
 use std::{fmt, io};
@@ -65,7 +65,7 @@ fn main(rt: HostRuntime) -> io::Result<()> {
     let mut buffer = [0u8; MOST + 1];
     let n = read_input(&rt, &mut buffer)?;
     if MOST < n {
-        return println!(rt; "refused 5");
+        return println!(rt; "refused {}", u64::from(Refusal::Length));
     }
     print_shown(&rt, &buffer[..n])
 }
