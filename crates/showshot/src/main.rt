@@ -5,6 +5,7 @@ ghost use Rattle.std.specs.Prelude.{◌*◌, ◌<◌, ◌≤◌, length};
 
 use decoder::Body;
 use header_reader::Header;
+use refusal::Refusal;
 use showing_limited::show_limited;
 use standard_input::read_input;
 use std::{fmt, io};
@@ -63,7 +64,7 @@ fn main(rt: HostRuntime) -> io::Result<()> {
     let mut buffer = [0u8; MOST + 1];
     let n = read_input(&rt, &mut buffer)?;
     if MOST < n {
-        return println!(rt; "refused 5");
+        return println!(rt; "refused {}", u64::from(Refusal::Length));
     }
     print_shown(&rt, &buffer[..n])
 }
