@@ -230,7 +230,12 @@ fn header_read(answer: &Result<Reading, Refusal>) -> Header
 fn wide(numbers: [u32; 128]) -> [u64; 128]
     ensures { result ≡ listed 128 (λ i. get_or numbers i 0) }
 {
-    numbers.map(|number| u64::from(number))
+    // No map of the array: it takes more stack than the header states.
+    let mut values = [0u64; 128];
+    for (i, value) in values.iter_mut().enumerate() {
+        *value = u64::from(numbers[i]);
+    }
+    values
 }
 
 // The numbers of a header into the caller's array from `at` on.

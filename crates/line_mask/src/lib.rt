@@ -42,6 +42,7 @@ fn join_marks(marks: &mut [u8], at: usize, from: usize, n: usize)
     requires apart { Apart at from n }
     ensures { Joined at from n marks.old marks.new }
 {
+    // By index: both runs are in one buffer, and std says only the length of what is written through a zip.
     for k in 0..n {
         marks[at + k] = marks[at + k] | marks[from + k];
     }

@@ -55,11 +55,9 @@ fn col_pass(kernel: Kernel, buf: &mut [u8], strip: &mut [u8], stride: usize, w: 
     ensures { picture 0 stride buf.new ≡ col_pass (mask_line_bytes kernel) w h (picture 0 stride buf.old) }
 {
     let most = 32768 / h;
-    let mut x: usize = 0;
-    while x < w {
+    for x in (0..w).step_by(most) {
         let lanes = most.min(w - x);
         columns(kernel, buf, strip, x, stride, h, lanes);
-        x += lanes;
     }
 }
 

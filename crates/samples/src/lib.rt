@@ -35,6 +35,7 @@ pub fn show_all(depth: usize, undone: &[i32], shown: &mut [u16])
     ensures { Result 0 true (λ i. in_range depth (get_or undone.now i (pos 0))) shown.old shown.new }
 {
     let top = (refusal::power(depth) - 1) as u16;
+    // No zip: std says only the length of what is written through one.
     for (i, sample) in shown.iter_mut().enumerate() {
         *sample = in_range(top, undone[i]);
     }
@@ -72,6 +73,7 @@ fn truncate_all(q: usize, mask: &[u8], plane: &mut [i32])
     requires accepted { Accepted plane.old }
     ensures { Result (pos 0) true (λ i. truncated q (marked (get_or mask.now i 0)) (get_or plane.old i (pos 0))) plane.old plane.new }
 {
+    // No zip, as above.
     for (i, z) in plane.iter_mut().enumerate() {
         *z = truncate_one(q, mask[i], *z);
     }
