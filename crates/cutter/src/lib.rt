@@ -57,7 +57,7 @@ fn cut_read(stream: &[u8], wanted: usize, whole: bool, mark: usize, out: &mut [u
     if out.len() < wanted {
         return Outcome::TooShort(wanted);
     }
-    transfer::bytes::copy(stream, out, 0, 0, wanted);
+    out[..wanted].copy_from_slice(&stream[..wanted]);
     header::put_four(out, 0, wanted - 4);
     Outcome::Done(wanted)
 }

@@ -9,7 +9,7 @@ ghost use Rattle.grid.specs.Picture.{row_pass, col_pass, turned, picture};
 ghost use Rattle.grid.specs.Buffer.{strided, InBuffer, Lines};
 ghost use Rattle.runs.specs.Cells.{Written};
 ghost use Rattle.lifting.specs.Parts.{Parts, Bounded};
-ghost use Rattle.passes.specs.Passes.{line_transform, pictured, Takes, Area};
+ghost use Rattle.passes.specs.Passes.{pictured, Takes, Area};
 ghost use Rattle.passes.specs.Pairs.{PairsIn, PairsPlaced, ended_row, PairBack};
 ghost use Rattle.passes.specs.Levels.{level_of, LevelBack};
 
@@ -18,24 +18,32 @@ use kernel::Kernel;
 // How many numbers of working memory a strip of columns takes.
 pub const STRIP: usize = 32768;
 
-// Transforms, in place, a row of w numbers from `at` on, or takes it back, through working memory q.
-fn row(kernel: Kernel, undo: bool, l: &mut [i32], q: &mut [i32], at: usize, w: usize)
+// Transforms, in place, a row of w numbers from `at` on, through working memory q.
+fn row(kernel: Kernel, l: &mut [i32], q: &mut [i32], at: usize, w: usize)
     requires w_nonzero { (0 < w) × (w < 2 ^ 32) × (w ≤ length q.old) }
     requires in_buffer { InBuffer l.old at 1 w 1 }
-    requires takes { Takes undo w (strided (pos 0) l.old (at + 0) 1) }
-    ensures { Lines (line_transform undo kernel) (pos 0) at 1 w 1 l.old l.new }
+    requires takes { Takes false w (strided (pos 0) l.old (at + 0) 1) }
+    ensures { Lines (forward kernel) (pos 0) at 1 w 1 l.old l.new }
 {
     let highs = w / 2;
     let lows = w - highs;
-    if undo {
-        transfer::numbers::copy(l, q, at, 0, w);
-        lifting::back(kernel, q, 0, lows, 1, lows, highs, 1);
-        transfer::numbers::weave(q, l, 0, lows, at, w);
-    } else {
-        transfer::numbers::part(l, q, at, 0, lows, w);
-        lifting::forward(kernel, q, 0, lows, 1, lows, highs, 1);
-        transfer::numbers::copy(q, l, 0, at, w);
-    }
+    transfer::numbers::part(l, q, at, 0, lows, w);
+    lifting::forward(kernel, q, 0, lows, 1, lows, highs, 1);
+    l[at..at + w].copy_from_slice(&q[..w]);
+}
+
+// Takes such a row back.
+fn row_back(kernel: Kernel, l: &mut [i32], q: &mut [i32], at: usize, w: usize)
+    requires w_nonzero { (0 < w) × (w < 2 ^ 32) × (w ≤ length q.old) }
+    requires in_buffer { InBuffer l.old at 1 w 1 }
+    requires takes { Takes true w (strided (pos 0) l.old (at + 0) 1) }
+    ensures { Lines (back kernel) (pos 0) at 1 w 1 l.old l.new }
+{
+    let highs = w / 2;
+    let lows = w - highs;
+    q[..w].copy_from_slice(&l[at..at + w]);
+    lifting::back(kernel, q, 0, lows, 1, lows, highs, 1);
+    transfer::numbers::weave(q, l, 0, lows, at, w);
 }
 
 // The row pass over an area of w by h, forward, in rows of stride numbers.
@@ -46,7 +54,7 @@ pub fn row_pass(kernel: Kernel, l: &mut [i32], q: &mut [i32], stride: usize, w: 
     ensures { picture (pos 0) stride l.new ≡ row_pass (forward kernel) w h (picture (pos 0) stride l.old) }
 {
     for y in 0..h {
-        row(kernel, false, l, q, y * stride, w);
+        row(kernel, l, q, y * stride, w);
     }
 }
 
@@ -60,18 +68,16 @@ fn strip(
     h: usize,
     lanes: usize,
 )
-    requires h_nonzero { (0 < h) × (h < 2 ^ 32) × (h * lanes ≤ length q.old) }
-    requires stride_bound { (stride ≤ 2 ^ 32) × InBuffer l.old x stride h lanes }
+    requires h_nonzero { (0 < h) × (h ≤ 4096) × (h * lanes ≤ length q.old) }
+    requires in_buffer { InBuffer l.old x stride h lanes }
     requires by_index { (j : ℕ) → j < lanes → Takes false h (strided (pos 0) l.old (x + j) stride) }
-    ensures { Lines (line_transform false kernel) (pos 0) x stride h lanes l.old l.new }
+    ensures { Lines (forward kernel) (pos 0) x stride h lanes l.old l.new }
 {
     let highs = h / 2;
     let lows = h - highs;
-    let odds = lows * lanes;
-    transfer::numbers::copy_rows(l, q, x, 2 * stride, 0, lanes, lows, lanes);
-    transfer::numbers::copy_rows(l, q, x + stride, 2 * stride, odds, lanes, highs, lanes);
-    lifting::forward(kernel, q, 0, odds, lanes, lows, highs, lanes);
-    transfer::numbers::copy_rows(q, l, 0, lanes, x, stride, h, lanes);
+    transfer::take(l, q, x, stride, h, lanes);
+    lifting::forward(kernel, q, 0, lows * lanes, lanes, lows, highs, lanes);
+    transfer::put(q, l, x, stride, h, lanes);
 }
 
 // The column pass over the same area, forward, a strip of columns at a time: as many as working memory holds.
@@ -82,11 +88,9 @@ pub fn col_pass(kernel: Kernel, l: &mut [i32], q: &mut [i32], stride: usize, w: 
     ensures { picture (pos 0) stride l.new ≡ col_pass (forward kernel) w h (picture (pos 0) stride l.old) }
 {
     let most = STRIP / h;
-    let mut x: usize = 0;
-    while x < w {
+    for x in (0..w).step_by(most) {
         let lanes = whole::least(most, w - x);
         strip(kernel, l, q, x, stride, h, lanes);
-        x += lanes;
     }
 }
 
@@ -113,7 +117,7 @@ fn place_pairs(
     let lows = h - highs;
     let at = 2 * a * stride;
     let high_rows = whole::least(b, highs) - whole::least(a, highs);
-    transfer::numbers::copy_rows(
+    transfer::copy_rows(
         plane,
         l,
         a * width + left,
@@ -123,7 +127,7 @@ fn place_pairs(
         b - a,
         right,
     );
-    transfer::numbers::copy_rows(
+    transfer::copy_rows(
         plane,
         l,
         (lows + a) * width,
@@ -167,9 +171,9 @@ fn pair_back(
         0,
         1,
     );
-    row(kernel, true, l, q, at, w);
+    row_back(kernel, l, q, at, w);
     if 0 < highs {
-        row(kernel, true, l, q, at + stride, w);
+        row_back(kernel, l, q, at + stride, w);
     }
 }
 
@@ -231,7 +235,7 @@ fn row_in(kernel: Kernel, samples: &[u16], l: &mut [i32], from: usize, at: usize
 {
     let highs = w / 2;
     let lows = w - highs;
-    transfer::numbers::part_samples(samples, l, from, at, at + lows, w);
+    transfer::numbers::part(samples, l, from, at, at + lows, w);
     lifting::forward(kernel, l, at, at + lows, 1, lows, highs, 1);
 }
 

@@ -45,9 +45,9 @@ fn columns(
     ensures { Lines (mask_line_bytes kernel) 0 start stride n lanes buf.old buf.new }
 {
     let low = n - n / 2;
-    transfer::bytes::take(buf, strip, start, stride, n, lanes);
+    transfer::take(buf, strip, start, stride, n, lanes);
     line_mask::mask(kernel, strip, 0, low * lanes, low, n / 2, lanes);
-    transfer::bytes::put(strip, buf, start, stride, n, lanes);
+    transfer::put(strip, buf, start, stride, n, lanes);
 }
 
 // The column pass over the same area, a strip of columns at a time: as many as the working memory holds.

@@ -34,10 +34,10 @@ module _ {A : Type 0} (o : A) (a e : ℕ) (l y : List A) (h : a ≤ e) (g : e �
       ∙ get_or-append_right y (post_of a (e - a) l) (e - a) (i - a) o same (omega arith)
       ∙ get_or-drop (e - a) (drop a l) (i - a - (e - a)) o ∙ get_or-drop a l _ o ∙ ap (λ j. get_or l j o) (omega arith)
 
--- ---- a copy of cells, as `copy_from_slice` makes it
-module _ {A : Type 0} (o : A) {x l y : List A} (from at n : ℕ) (inside : from + n ≤ length x) (room : at + n ≤ length l) (same : y ≡ take (from + n - from) (drop from x)) where
-  pub copied : Copied o x from at n l (put_mid at (at + n - at) l y)
-  copied =
+-- ---- a copy of n cells, as `copy_from_slice` makes it: between parts, from the front, and to the front
+module _ {A : Type 0} (o : A) {x l y : List A} where
+  pub copied : (from at n : ℕ) → from + n ≤ length x → at + n ≤ length l → y ≡ take (from + n - from) (drop from x) → Copied o x from at n l (put_mid at (at + n - at) l y)
+  copied from at n inside room same =
       let many : length y ≡ at + n - at = rw same (mid_len from (from + n) x inside ∙ omega arith) in record {
         size = mid_size o at (at + n) l y (omega arith) room many;
         on = λ k p. mid_on o at (at + n) l y (omega arith) room many k (omega arith) ∙ ap (λ z. get_or z k o) same ∙ get_or-take (from + n - from) (drop from x) k o (omega arith) ∙ get_or-drop from x k o;
@@ -45,7 +45,8 @@ module _ {A : Type 0} (o : A) {x l y : List A} (from at n : ℕ) (inside : from 
         above = mid_above o at (at + n) l y (omega arith) room many;
       }
 
--- ---- the first n cells
-module _ {A : Type 0} (o : A) (x : List A) (n : ℕ) {l : List A} where
-  pub front_cell : {l' : List A} → Copied o x 0 0 n l l' → (i : ℕ) → i < n → get_or l' i o ≡ get_or x i o
-  front_cell {l'} c i h = let e : 0 + i ≡ i = omega arith in rw e at (c.on i h)
+  pub front_copied : (at n : ℕ) → n ≤ length x → at + n ≤ length l → y ≡ take n x → Copied o x 0 at n l (put_mid at (at + n - at) l y)
+  front_copied at n inside room same = let e : 0 + n - 0 ≡ n = omega arith in copied 0 at n (omega arith) room (rw e same)
+
+  pub copied_front : (from n : ℕ) → from + n ≤ length x → n ≤ length l → y ≡ take (from + n - from) (drop from x) → Copied o x from 0 n l (y ++ drop n l)
+  copied_front from n inside room same = let e : 0 + n - 0 ≡ n = omega arith in rw e at (copied from 0 n inside (omega arith) same)

@@ -149,7 +149,7 @@ fn undo_levels(
         );
         passes::level_back(kernel, plane, l, q, width, stride, w, h);
     } else {
-        transfer::numbers::copy_rows(plane, l, 0, width, 0, stride, h, w);
+        transfer::copy_rows(plane, l, 0, width, 0, stride, h, w);
     }
 }
 

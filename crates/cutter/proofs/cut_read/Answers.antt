@@ -1,11 +1,13 @@
 -- `cutter::cut_read` cuts a stream that was read, or refuses. Assumes nothing.
-use mathlib.Core.Path.{refl}
+use mathlib.Core.Path.{refl, ap}
+use mathlib.Core.List.{◌++◌}
 use Prim.Native.Nat.{◌≤◌}
 use native.Mathlib.Omega.{arith}
+use lib.ListN.{drop}
 use Rattle.refusal.specs.declared.Refusal.TheVariants.{Cut}
 use Rattle.header.proofs.Parts.{good_small}
 use Rattle.cutter.proofs.Answered.{refused, too_short, done, not_whole, front_most, below_mark, above_stream, no_room, passed}
-use Rattle.cutter.proofs.Buffers.{copied, cut_laid}
+use Rattle.cutter.proofs.Buffers.{front_size, cut_laid}
 use Rattle.cutter.proofs.cut_read.Goals as goal
 
 pub returns-then-not-whole : goal.returns-then-not-whole
@@ -26,10 +28,10 @@ returns-then-out-wanted c = let whole = c.if-not-whole.false in
 pub put_four-requires : goal.put_four-requires
 put_four-requires c = let whole = c.if-not-whole.false in
     let long : 14 ≤ c.args.wanted = omega (arith, front_most c.requires whole) in
-    (omega (arith, c.copy.auto.dst, long), omega (arith, good_small c.args.stream.now (λ i. omega (arith, c.type_inv.stream i)) c.requires.header))
+    (omega (arith, front_size _ c.args.out.now c.args.wanted c.copy_from_slice.auto.self (omega arith), long), omega (arith, good_small c.args.stream.now (λ i. omega (arith, c.type_inv.stream i)) c.requires.header))
 
 pub returns : goal.returns
 returns c = let whole = c.if-not-whole.false in
     let long : 14 ≤ c.args.wanted = omega (arith, front_most c.requires whole) in
     done (passed c.requires _ _ whole (omega arith) (omega arith) (omega arith))
-    (cut_laid c.args.stream.now c.args.out.now c.args.wanted (omega (arith, long)) (omega arith) (omega arith) (copied c.args.stream.now c.args.out.now c.args.wanted (omega arith) (omega arith) c.copy.ensures) c.put_four.ensures)
+    (cut_laid c.args.stream.now c.args.out.now c.args.wanted (omega (arith, long)) (omega arith) (omega arith) (ap (λ y. y ++ drop c.args.wanted c.args.out.now) c.copy_from_slice.ensures.after) c.put_four.ensures)
