@@ -117,11 +117,13 @@ module _ (s : Step) (M n r c u v t : ℕ) (l : List ℤ) (p : Taps) (e : p ≡ t
 
     pub run_near : Bounded (tap_bound s) v t M c l → Near s l p (r * c)
     run_near g = rw e (record {
-      here = run_bounded _ g x (here_rows st some other 0);
-      before2 = run_bounded _ g x (before_rows st some other (look_back s) (omega arith));
-      before = run_bounded _ g x (before_rows st some other (min 1 (look_back s)) (omega arith));
-      after = run_bounded _ g x (after_rows st some other (min 1 (look_ahead s)) (omega arith));
-      after2 = run_bounded _ g x (after_rows st some other (look_ahead s) (omega arith));
+      each = λ k h. record {
+        here = run_bounded _ g x (here_rows st some other 0) k h;
+        before2 = run_bounded _ g x (before_rows st some other (look_back s) (omega arith)) k h;
+        before = run_bounded _ g x (before_rows st some other (min 1 (look_back s)) (omega arith)) k h;
+        after = run_bounded _ g x (after_rows st some other (min 1 (look_ahead s)) (omega arith)) k h;
+        after2 = run_bounded _ g x (after_rows st some other (look_ahead s) (omega arith)) k h;
+      };
     })
 
   moved_at-moved_row : (add : Bool) (i j : ℕ) → i < r → moved_at s add l p (i * c + j) ≡ moved_row s add M u v t l (n + i) j

@@ -29,10 +29,11 @@ use Rattle.runs.specs.Cells.{Pairs}
 use Rattle.runs.specs.Step.{Step, SPlusP, TT, High, Low}
 use Rattle.lifting.specs.Parts.{lane, Parts, Bounded, Both}
 use Rattle.lifting.specs.Steps.{amount, movable, EndToEnd, Fit, Lifted}
+use Rattle.runs.specs.Steps.{Apart}
 use Rattle.runs.specs.Pair.{pair_first, pair_second, PairFit}
 use Rattle.lifting.specs.Lines.{firsts, seconds, pair_lows, Pairable, RowsWithin, first_lows, first_highs}
-use Rattle.lifting.proofs.Rows.{row_place, row_in, line_in, run_place, same_row, parts_swap, rows_other}
-use Rattle.lifting.proofs.Lifts.{amount_local}
+use Rattle.lifting.proofs.Rows.{run_inside, row_place, row_in, line_in, run_place, same_row, parts_swap, rows_other}
+use Rattle.lifting.proofs.Lifts.{amount_local, runs_apart}
 
 abbrev pub Local : ℕ → ℕ → ℕ → (Line ℤ → Line ℤ → Line ℤ) → Type 0
 Local r p q F = (A A' B B' : Line ℤ) → Agree p A A' → Agree q B B' → Agree r (F A B) (F A' B')
@@ -114,6 +115,17 @@ module _ (join : Bool) {a b t c : ℕ} {l l' : List ℤ} where
         (λ k h e. y (n + k / c) (k % c) (omega arith) (omega (arith, row_in x a n k h)) (line_in x a n k h) (e ∙ run_place x a n k h))
         (λ k h e. z (n + k / c) (k % c) (omega arith) (omega (arith, row_in x b n k h)) (line_in x b n k h) (e ∙ run_place x b n k h));
   }
+
+-- the places of such a run
+module _ (n r : ℕ) {a b t c size : ℕ} (g : Parts a b t (n + r) (n + r) c size) (x : EndToEnd t c r) (some : 0 < r) where
+  pub pair_places : (a + n * t < size) × (b + n * t < size)
+  pair_places = (omega (arith, g.first.place n 0 (omega arith) g.lines), omega (arith, g.second.place n 0 (omega arith) g.lines))
+
+  pub pairs_inside : (a + n * t + r * c ≤ size) × (b + n * t + r * c ≤ size)
+  pairs_inside = (run_inside n r g.first x some g.lines (omega arith), run_inside n r g.second x some g.lines (omega arith))
+
+  pub pairs_apart : Apart (a + n * t) (b + n * t) (r * c)
+  pairs_apart = runs_apart n n r g x (omega arith) (omega arith)
 
 -- ---- the first part of K pairs, and of a number behind them
 module _ (join : Bool) (K n : ℕ) (A B : Line ℤ) where

@@ -46,7 +46,7 @@ pub alike_one : (k : Stage) (M n : ℕ) → Alike k M n 1
 alike_one Paired M n = tt
 alike_one (Moved s) M n = straight_one s M n
 
-pub alike_between : (k : Stage) (M n r : ℕ) → stage_back k ≤ n → n + r + stage_ahead k ≤ M → Alike k M n r
+alike_between : (k : Stage) (M n r : ℕ) → stage_back k ≤ n → n + r + stage_ahead k ≤ M → Alike k M n r
 alike_between Paired M n r low high = tt
 alike_between (Moved s) M n r low high = straight_between s M n r low high
 
@@ -66,28 +66,37 @@ pub makes_join : (k : Stage) (undo : Bool) (p : TwoParts) (d e f : ℕ) (l l' l'
 makes_join Paired undo p d e f l l' l'' x low high y z = pair_join undo x.parts high y f low high (omega arith) z
 makes_join (Moved s) undo p d e f l l' l'' x low high y z = lift_join x.parts high y f low high x.top z
 
--- ---- rows d up to f, then up to h as one run, and then up to e
-pub between : (d e m back ahead f seen : ℕ) → f ≡ max d back → seen ≡ min m (e + ahead) → f + ahead < seen
-    → let h = seen - ahead in (d ≤ f) × (back ≤ f) × (f < h) × (h ≤ e) × (h + ahead ≤ m)
-between d e m back ahead f seen x y lt = (omega (arith, x), omega (arith, x), omega arith, omega (arith, y), omega (arith, y))
+-- ---- rows d up to f, then as one run up to h, where no row outside is looked at, and then up to e
+module _ (k : Stage) (undo : Bool) (p : TwoParts) (d e : ℕ) (l : List ℤ) (x : Takes k undo p d e l) (back ahead f seen : ℕ)
+    (first : f ≡ max d back) (last : seen ≡ min p.lows (e + ahead)) (some : f + ahead < seen) where
+  low : d ≤ f
+  low = omega (arith, first)
 
-module _ (k : Stage) (undo : Bool) (p : TwoParts) (d f h e : ℕ) (l : List ℤ) (x : Takes k undo p d e l) (low : d ≤ f) (mid : f < h) (high : h ≤ e) where
+  high : seen - ahead ≤ e
+  high = omega (arith, last)
+
+  run_rows : f + (seen - ahead - f) ≡ seen - ahead
+  run_rows = omega arith
+
+  pub alike_run : back ≡ stage_back k → ahead ≡ stage_ahead k → Alike k p.lows f (seen - ahead - f)
+  alike_run b a = alike_between k p.lows f (seen - ahead - f) (omega (arith, first, b)) (omega (arith, last, a))
+
   pub takes_first : Takes k undo p d f l
-  takes_first = takes_part k undo p d e d f l x (omega arith) (omega arith)
+  takes_first = takes_part k undo p d e d f l x (omega arith) (omega (arith, high))
 
   module _ (l1 : List ℤ) (y : Makes k undo p d f l l1) where
     takes_rest : Takes k undo p f e l1
-    takes_rest = takes_more k undo p d f e l l1 x low (omega arith) y
+    takes_rest = takes_more k undo p d f e l l1 x low (omega (arith, high)) y
 
-    pub takes_run : Takes k undo p f (f + (h - f)) l1
-    takes_run = takes_part k undo p f e f (f + (h - f)) l1 takes_rest (omega arith) (omega arith)
+    pub takes_run : Takes k undo p f (f + (seen - ahead - f)) l1
+    takes_run = takes_part k undo p f e f (f + (seen - ahead - f)) l1 takes_rest (omega arith) (omega (arith, high))
 
-    module _ (l2 : List ℤ) (z : Makes k undo p f (f + (h - f)) l1 l2) where
-      run_made : Makes k undo p f h l1 l2
-      run_made = let same : f + (h - f) ≡ h = omega arith in rw same at z
+    module _ (l2 : List ℤ) (z : Makes k undo p f (f + (seen - ahead - f)) l1 l2) where
+      run_made : Makes k undo p f (seen - ahead) l1 l2
+      run_made = rw run_rows at z
 
-      pub takes_last : Takes k undo p h e l2
-      takes_last = takes_more k undo p f h e l1 l2 takes_rest (omega arith) high run_made
+      pub takes_last : Takes k undo p (seen - ahead) e l2
+      takes_last = takes_more k undo p f (seen - ahead) e l1 l2 takes_rest (omega arith) high run_made
 
-      pub makes_all : (l3 : List ℤ) → Makes k undo p h e l2 l3 → Makes k undo p d e l l3
-      makes_all l3 w = makes_join k undo p d f e l l1 l3 x low (omega arith) y (makes_join k undo p f h e l1 l2 l3 takes_rest (omega arith) high run_made w)
+      pub makes_all : (l3 : List ℤ) → Makes k undo p (seen - ahead) e l2 l3 → Makes k undo p d e l l3
+      makes_all l3 w = makes_join k undo p d f e l l1 l3 x low (omega (arith, high)) y (makes_join k undo p f (seen - ahead) e l1 l2 l3 takes_rest (omega arith) high run_made w)

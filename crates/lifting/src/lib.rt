@@ -61,7 +61,8 @@ fn taps<S: Lift>(size: usize, p: TwoParts, n: usize) -> Taps
     }
 }
 
-// What a kernel does with rows of two parts, or undoes, and how many rows back and ahead it looks.
+// What a kernel does with rows of two parts, or undoes, and how many rows back and ahead it looks. `undo` is a flag through all of lifting: kernel 3's
+// second step turns it, and a const argument can't be computed.
 trait OnRows {
     // Which of the stages it is.
     ghost stage: { Stage };

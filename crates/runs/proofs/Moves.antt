@@ -3,7 +3,7 @@
 --   Moving add amount s n l l' k == so far the first k of n numbers from place s on are moved
 --
 -- Assumes nothing.
-use mathlib.Core.Path.{◌≡◌, ◌∙◌}
+use mathlib.Core.Path.{◌≡◌, ap, ◌∙◌}
 use mathlib.Core.Bool.{Bool}
 use mathlib.Core.List.{List}
 use Prim.Native.Nat.{ℕ, ◌+◌, ◌<◌, ◌≤◌, ◌^◌}
@@ -15,12 +15,12 @@ use mir.Syntax.{w32}
 use mir.Val.{SFits, to_z, of_z, hbits}
 use mir.Facts.{to_z-of_z}
 use borrow.Author.Rules.{sfits_of}
-use Rattle.whole.specs.Within.{Within}
 use Rattle.line.specs.Cells.{cell}
 use Rattle.steps.specs.Moved.{moved}
 use Rattle.runs.specs.Cells.{Written}
-use Rattle.runs.specs.Steps.{around, Apart, Room, NearBy, Near}
+use Rattle.runs.specs.Steps.{formula, around, amount_at, Apart, Room, NearBy, Near}
 use Rattle.runs.specs.Step.{Step}
+use Rattle.runs.specs.declared.Around.{Around}
 use Rattle.runs.specs.declared.Taps.{Taps}
 use Rattle.runs.proofs.Writes.{written_none, written_more, written_all, written_kept}
 
@@ -56,15 +56,16 @@ module _ {add : Bool} {amount : ℕ → ℤ} {p : Taps} {n k : ℕ} {l l' : List
   after2 : cell l' (p.after2 + k) ≡ cell l (p.after2 + k)
   after2 = kept p.after2 room.after2_apart
 
-  pub around_kept : around l' p k ≡ around l p k
+  around_kept : around l' p k ≡ around l p k
   around_kept = rw (here, before2, before, after, after2)
 
-  pub near_kept : {s : Step} → Near s l p n → NearBy s (around l' p k)
-  near_kept w = rw around_kept (record { here = w.here k h; before2 = w.before2 k h; before = w.before k h; after = w.after k h; after2 = w.after2 k h })
+  -- so what is read of them is what the step takes, and what it computes is the amount
+  module _ (s : Step) {x : Around} (read : x ≡ around l' p k) where
+    pub near_read : Near s l p n → NearBy s x
+    near_read w = rw (read, around_kept) (w.each k h)
 
--- a bound on a number holds of what is read back from its bits
-pub near_read : {b : ℕ} {z : ℤ} → mag z < 2 ^ hbits w32 → Within b z → Within b (to_z w32 (of_z w32 z))
-near_read f w = rw (to_z-of_z {w = w32} (sfits_of f)) w
+    pub amount_read : formula s x ≡ amount_at s l p k
+    amount_read = ap (formula s) (read ∙ around_kept)
 
 -- a turn moves the next number by an amount z, each of the two read back from its bits
 module _ {add : Bool} {amount : ℕ → ℤ} {s n k : ℕ} {l l' : List ℤ} {z : ℤ} (m : Moving add amount s n l l' k) (h : k < n)

@@ -90,11 +90,7 @@ pub record NearBy (s : Step) (x : Around) : Type 0 where
   pub after2 : Within (tap_bound s) x.after2
 
 pub record Near (s : Step) (l : List ℤ) (p : Taps) (n : ℕ) : Type 0 where
-  pub here : (k : ℕ) → k < n → Within (tap_bound s) (cell l (p.here + k))
-  pub before2 : (k : ℕ) → k < n → Within (tap_bound s) (cell l (p.before2 + k))
-  pub before : (k : ℕ) → k < n → Within (tap_bound s) (cell l (p.before + k))
-  pub after : (k : ℕ) → k < n → Within (tap_bound s) (cell l (p.after + k))
-  pub after2 : (k : ℕ) → k < n → Within (tap_bound s) (cell l (p.after2 + k))
+  pub each : (k : ℕ) → k < n → NearBy s (around l p k)
 
 pub record Stays (s : Step) (add : Bool) (l : List ℤ) (p : Taps) (n : ℕ) : Type 0 where
   pub fits : (k : ℕ) → k < n → SFits w32 (moved_at s add l p k)

@@ -188,6 +188,7 @@ pub fn run_pairs<P: Pair>(l: &mut [i32], a: usize, b: usize, n: usize)
     requires by_index { (k : ℕ) → k < n → PairFit P.join (cell l.old (a + k)) (cell l.old (b + k)) }
     ensures { Pairs (λ k. pair_first P.join (cell l.old (a + k)) (cell l.old (b + k))) (λ k. pair_second P.join (cell l.old (a + k)) (cell l.old (b + k))) a b n l.old l.new }
 {
+    // By index: both runs are in one buffer, and which of them comes first, to part it there, is not told.
     for k in 0..n {
         let (x, y) = P::both(l[a + k], l[b + k]);
         l[a + k] = x;
@@ -195,13 +196,15 @@ pub fn run_pairs<P: Pair>(l: &mut [i32], a: usize, b: usize, n: usize)
     }
 }
 
-// A lifting step on a run of n numbers, from the numbers around them.
+// A lifting step on a run of n numbers, from the numbers around them: what it computes is added or taken off. That is a flag: a type for each way would
+// come to two calls wherever it is chosen, and the compiler makes two loops of this one.
 pub fn run<S: Lift>(l: &mut [i32], p: Taps, n: usize, add: bool)
     requires room { Room p n l.old }
     requires near { Near S.step l.old p n }
     requires stays { Stays S.step add l.old p n }
     ensures { Written (moved_at S.step add l.old p) p.at n l.old l.new }
 {
+    // By index: the numbers around are in the buffer that is written, which an iterator over the run would hold.
     for k in 0..n {
         let x = Around {
             here: l[p.here + k],
