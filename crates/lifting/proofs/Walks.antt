@@ -2,15 +2,21 @@
 use mathlib.Core.Path.{◌≡◌}
 use mathlib.Core.Bool.{Bool}
 use mathlib.Core.List.{List}
-use Prim.Native.Nat.{ℕ, ◌+◌, ◌-◌, ◌<◌, ◌≤◌, min, max}
+use Prim.Native.Nat.{ℕ, ◌+◌, ◌-◌, ◌^◌, ◌<◌, ◌≤◌, min, max}
 use native.Mathlib.Omega.{arith}
+use lib.Dec.{T, ltb}
 use lib.IntN.{ℤ}
-use Rattle.runs.specs.Step.{Step}
+use lib.ListN.{length}
+use Rattle.runs.specs.Step.{Step, SPlusP, TT, High, Low}
+use Rattle.runs.specs.Steps.{tap_bound}
 use Rattle.lifting.specs.declared.TwoParts.{TwoParts}
+use Rattle.lifting.specs.Parts.{Parts, Bounded}
+use Rattle.lifting.specs.Steps.{movable}
+use Rattle.lifting.specs.Lines.{RowsWithin}
 use Rattle.lifting.specs.Stages.{MovesAble, MovesDone, PairsAble, PairsDone, Stage, Paired, Moved, stage_back, stage_ahead, Alike, Takes, Makes}
-use Rattle.lifting.proofs.Rows.{parts_as, parts_fewer}
+use Rattle.lifting.proofs.Rows.{parts_as, parts_fewer, parts_swap, bounded_more, within_some}
 use Rattle.lifting.proofs.Lifts.{straight_one, straight_between, parts_more, bounded_other, lift_none, lift_join, fit_more, fit_part}
-use Rattle.lifting.proofs.Stages.{pair_none, pair_join, pairable_more, pairable_part}
+use Rattle.lifting.proofs.Stages.{rows_fit, pair_none, pair_join, pairable_more, pairable_part}
 
 module _ (s : Step) (add : Bool) (p : TwoParts) where
   moves_part : (d e u v : ℕ) (l : List ℤ) → MovesAble s add p d e l → d ≤ u → v ≤ e → MovesAble s add p u v l
@@ -30,6 +36,24 @@ module _ (s : Step) (add : Bool) (p : TwoParts) where
     bounded = bounded_other x.parts high y x.bounded;
     fit = fit_more x.parts high y e f (omega arith) x.top (fit_part e f x.fit low (omega arith));
   }
+
+-- what a step takes to move the highs d up to e, as far as there are, from lows within r
+movable_all : (s : Step) (M : ℕ) → M ≤ movable s M
+movable_all SPlusP M = omega arith
+movable_all TT M = omega arith
+movable_all High M = omega arith
+movable_all Low M = omega arith
+
+pub moves_highs : (s : Step) (add : Bool) (p : TwoParts) (d e : ℕ) {r : ℕ} {l : List ℤ} → e ≤ p.lows → 0 < p.lows → Parts p.a p.b p.step p.lows p.highs p.lanes (length l)
+    → Bounded r p.a p.step p.lows p.lanes l → r ≤ tap_bound s → RowsWithin (2 ^ 29) p.b p.step p.lanes d (min e p.highs) l → T (ltb (2 ^ 29 + (r + 1)) (2 ^ 31))
+    → MovesAble s add p (min d p.highs) (min e p.highs) l
+moves_highs s add p d e top some g lows tap highs fits = record {
+  some = some;
+  top = omega (arith, movable_all s p.lows);
+  parts = parts_fewer _ _ (parts_swap g) (omega arith) (omega arith);
+  bounded = bounded_more lows tap;
+  fit = rows_fit s add (omega (arith, movable_all s p.lows)) (within_some d e p.highs highs) lows fits;
+}
 
 module _ (join : Bool) (p : TwoParts) where
   pairs_part : (d e u v : ℕ) (l : List ℤ) → PairsAble join p d e l → d ≤ u → v ≤ e → PairsAble join p u v l

@@ -1,9 +1,10 @@
 -- `lifting::first_step` does the first step of a kernel on some rows, or undoes it. Assumes nothing.
 use native.Mathlib.Omega.{arith}
 use Rattle.runs.specs.Step.{High}
-use Rattle.lifting.proofs.Rows.{parts_swap, parts_fewer, within_some}
+use Rattle.lifting.proofs.Rows.{parts_fewer, within_some}
 use Rattle.lifting.proofs.Lifts.{lift_some}
-use Rattle.lifting.proofs.Stages.{rows_fit, pair_able, pairs_some, first_pairs, rows_second}
+use Rattle.lifting.proofs.Stages.{pair_able, pairs_some, first_pairs, rows_second}
+use Rattle.lifting.proofs.Walks.{moves_highs}
 use Rattle.lifting.proofs.first_step.Goals as goal
 
 pub all_rows-requires : goal.all_rows-requires
@@ -15,17 +16,9 @@ all_rows-requires c = let a = c.args in let p = c.least-from.ensures in let q = 
   };
 }
 
-pub all_rows-requires-in-FiveThree : goal.all_rows-requires-in-FiveThree
-all_rows-requires-in-FiveThree c = let a = c.args in let x = c.requires.bounded in let p = c.least-from.ensures in let q = c.least-to.ensures in rw (p, q) record {
-  d_le_e = omega (arith, c.requires.d_le_e);
-  takes = record {
-    some = c.requires.d_le_e.2;
-    top = omega (arith, c.requires.d_le_e);
-    parts = parts_fewer _ _ (parts_swap c.requires.parts) (omega arith) (omega arith);
-    bounded = x;
-    fit = rows_fit High a.undo (omega (arith, c.requires.d_le_e)) (within_some a.d a.e a.p.highs c.requires.rows_within) x tt;
-  };
-}
+pub all_rows-requires-in-FiveThree-clause-takes : goal.all_rows-requires-in-FiveThree-clause-takes
+all_rows-requires-in-FiveThree-clause-takes c = let a = c.args in let q = c.requires in
+    rw (c.least-from.ensures, c.least-to.ensures) (moves_highs High a.undo a.p a.d a.e q.d_le_e.1 q.d_le_e.2 q.parts q.bounded (omega arith) q.rows_within tt)
 
 pub returns-in-S : goal.returns-in-S
 returns-in-S c = let a = c.args in let p = c.least-from.ensures in let q = c.least-to.ensures in

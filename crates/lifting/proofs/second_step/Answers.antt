@@ -3,28 +3,19 @@ use mathlib.Core.Path.{◌≡◌}
 use mathlib.Core.Bool.{not}
 use native.Mathlib.Omega.{arith}
 use Rattle.runs.specs.Step.{SPlusP, TT, Low}
-use Rattle.lifting.proofs.Rows.{parts_swap, parts_fewer, bounded_more, within_some}
+use Rattle.lifting.proofs.Rows.{parts_fewer, bounded_more}
 use Rattle.lifting.proofs.Lifts.{lift_some}
 use Rattle.lifting.proofs.Stages.{rows_fit, both_none, lows_stay, rows_first, rows_second}
+use Rattle.lifting.proofs.Walks.{moves_highs}
 use Rattle.lifting.proofs.second_step.Goals as goal
 
 pub all_rows-requires-clause-takes : goal.all_rows-requires-clause-takes
-all_rows-requires-clause-takes c = let a = c.args in let x = rw c.in-SPlusP.is at c.requires.second_takes in let p = c.least-from.ensures in let q = c.least-to.ensures in rw (p, q) record {
-  some = c.requires.d_le_e.3;
-  top = omega (arith, c.requires.d_le_e);
-  parts = parts_fewer _ _ (parts_swap c.requires.parts) (omega arith) (omega arith);
-  bounded = bounded_more x.0 (omega arith);
-  fit = rows_fit SPlusP a.undo (omega (arith, c.requires.d_le_e)) (within_some a.d a.e a.p.highs x.1) x.0 tt;
-}
+all_rows-requires-clause-takes c = let a = c.args in let q = c.requires in let x = rw c.in-SPlusP.is at q.second_takes in
+    rw (c.least-from.ensures, c.least-to.ensures) (moves_highs SPlusP a.undo a.p a.d a.e q.d_le_e.1 q.d_le_e.3 q.parts x.0 (omega arith) x.1 tt)
 
 pub all_rows-requires-in-TT-clause-takes : goal.all_rows-requires-in-TT-clause-takes
-all_rows-requires-in-TT-clause-takes c = let a = c.args in let x = rw c.in-TT.is at c.requires.second_takes in let p = c.least-from.ensures in let q = c.least-to.ensures in rw (p, q) record {
-  some = c.requires.d_le_e.3;
-  top = omega (arith, c.requires.d_le_e);
-  parts = parts_fewer _ _ (parts_swap c.requires.parts) (omega arith) (omega arith);
-  bounded = x.0;
-  fit = rows_fit TT a.undo (omega (arith, c.requires.d_le_e)) (within_some a.d a.e a.p.highs x.1) x.0 tt;
-}
+all_rows-requires-in-TT-clause-takes c = let a = c.args in let q = c.requires in let x = rw c.in-TT.is at q.second_takes in
+    rw (c.least-from.ensures, c.least-to.ensures) (moves_highs TT a.undo a.p a.d a.e q.d_le_e.1 q.d_le_e.3 q.parts x.0 (omega arith) x.1 tt)
 
 pub all_rows-requires-then-p-gt0-clause-takes : goal.all_rows-requires-then-p-gt0-clause-takes
 all_rows-requires-then-p-gt0-clause-takes c = let a = c.args in let x = rw c.in-FiveThree.is at c.requires.second_takes in record {
