@@ -14,6 +14,7 @@ ghost use Rattle.passes.specs.Pairs.{PairsIn, PairsPlaced, ended_row, PairBack};
 ghost use Rattle.passes.specs.Levels.{level_of, LevelBack};
 
 use kernel::Kernel;
+use lifting::TwoParts;
 
 // How many numbers of working memory a strip of columns takes.
 pub const STRIP: usize = 32768;
@@ -27,8 +28,16 @@ fn row(kernel: Kernel, l: &mut [i32], q: &mut [i32], at: usize, w: usize)
 {
     let highs = w / 2;
     let lows = w - highs;
+    let parts = TwoParts {
+        a: 0,
+        b: lows,
+        step: 1,
+        lanes: 1,
+        lows,
+        highs,
+    };
     transfer::numbers::part(l, q, at, 0, lows, w);
-    lifting::forward(kernel, q, 0, lows, 1, lows, highs, 1);
+    lifting::forward(kernel, q, parts);
     l[at..at + w].copy_from_slice(&q[..w]);
 }
 
@@ -41,8 +50,16 @@ fn row_back(kernel: Kernel, l: &mut [i32], q: &mut [i32], at: usize, w: usize)
 {
     let highs = w / 2;
     let lows = w - highs;
+    let parts = TwoParts {
+        a: 0,
+        b: lows,
+        step: 1,
+        lanes: 1,
+        lows,
+        highs,
+    };
     q[..w].copy_from_slice(&l[at..at + w]);
-    lifting::back(kernel, q, 0, lows, 1, lows, highs, 1);
+    lifting::back(kernel, q, parts);
     transfer::numbers::weave(q, l, 0, lows, at, w);
 }
 
@@ -75,8 +92,16 @@ fn strip(
 {
     let highs = h / 2;
     let lows = h - highs;
+    let parts = TwoParts {
+        a: 0,
+        b: lows * lanes,
+        step: lanes,
+        lanes,
+        lows,
+        highs,
+    };
     transfer::take(l, q, x, stride, h, lanes);
-    lifting::forward(kernel, q, 0, lows * lanes, lanes, lows, highs, lanes);
+    lifting::forward(kernel, q, parts);
     transfer::put(q, l, x, stride, h, lanes);
 }
 
@@ -158,19 +183,15 @@ fn pair_back(
     requires takes { Takes true w (ended_row false kernel lows highs at stride l.old) × (0 < highs → Takes true w (ended_row true kernel lows highs at stride l.old)) }
     ensures { PairBack kernel lows highs at stride w l.old l.new }
 {
-    lifting::first_step(
-        kernel,
-        true,
-        l,
-        at,
-        at + stride,
-        2 * stride,
+    let parts = TwoParts {
+        a: at,
+        b: at + stride,
+        step: 2 * stride,
+        lanes: w,
         lows,
         highs,
-        w,
-        0,
-        1,
-    );
+    };
+    lifting::first_step(kernel, true, l, parts, 0, 1);
     row_back(kernel, l, q, at, w);
     if 0 < highs {
         row_back(kernel, l, q, at + stride, w);
@@ -206,19 +227,15 @@ pub fn level_back(
         let to_begin = whole::least(n + 3, lows);
         let at = 2 * n * stride;
         place_pairs(plane, l, width, stride, w, h, placed, to_place);
-        lifting::second_step(
-            kernel,
-            true,
-            l,
-            at,
-            at + stride,
-            2 * stride,
-            to_place - n,
-            whole::least(to_place, highs) - n,
-            w,
-            begun - n,
-            to_begin - n,
-        );
+        let parts = TwoParts {
+            a: at,
+            b: at + stride,
+            step: 2 * stride,
+            lanes: w,
+            lows: to_place - n,
+            highs: whole::least(to_place, highs) - n,
+        };
+        lifting::second_step(kernel, true, l, parts, begun - n, to_begin - n);
         let pair_highs = whole::least(n + 1, highs) - n;
         pair_back(kernel, l, q, at, stride, to_begin - n, pair_highs, w);
         placed = to_place;
@@ -235,8 +252,16 @@ fn row_in(kernel: Kernel, samples: &[u16], l: &mut [i32], from: usize, at: usize
 {
     let highs = w / 2;
     let lows = w - highs;
+    let parts = TwoParts {
+        a: at,
+        b: at + lows,
+        step: 1,
+        lanes: 1,
+        lows,
+        highs,
+    };
     transfer::numbers::part(samples, l, from, at, at + lows, w);
-    lifting::forward(kernel, l, at, at + lows, 1, lows, highs, 1);
+    lifting::forward(kernel, l, parts);
 }
 
 // The rows of pair n of a picture of w by h samples, transformed and stored where they end: row 2n in row n, row 2n + 1, if there is one, in row n behind
@@ -287,14 +312,23 @@ pub fn level_in(kernel: Kernel, samples: &[u16], l: &mut [i32], w: usize, h: usi
     for n in 0..lows {
         let to_place = whole::least(lows, n + 5);
         let to_begin = whole::least(lows, n + 3);
-        // The high rows among them.
-        let stored = whole::least(to_place, highs);
-        let ready = whole::least(to_begin, highs);
         pairs_in(kernel, samples, l, w, h, placed, to_place);
-        lifting::first_step(
-            kernel, false, l, 0, b, w, to_place, stored, w, begun, to_begin,
-        );
-        lifting::second_step(kernel, false, l, 0, b, w, to_begin, ready, w, n, n + 1);
+        // What is stored, and of it what the first step is done on.
+        let stored = TwoParts {
+            a: 0,
+            b,
+            step: w,
+            lanes: w,
+            lows: to_place,
+            highs: whole::least(to_place, highs),
+        };
+        lifting::first_step(kernel, false, l, stored, begun, to_begin);
+        let ready = TwoParts {
+            lows: to_begin,
+            highs: whole::least(to_begin, highs),
+            ..stored
+        };
+        lifting::second_step(kernel, false, l, ready, n, n + 1);
         placed = to_place;
         begun = to_begin;
     }
