@@ -53,6 +53,7 @@ pub fn row_pass(kernel: Kernel, l: &mut [i32], q: &mut [i32], stride: usize, w: 
     requires by_index { (y : ℕ) → y < h → Takes false w (picture (pos 0) stride l.old y) }
     ensures { picture (pos 0) stride l.new ≡ row_pass (forward kernel) w h (picture (pos 0) stride l.old) }
 {
+    // Rows by their number: std says nothing of what a slice holds after `chunks_mut`.
     for y in 0..h {
         row(kernel, l, q, y * stride, w);
     }

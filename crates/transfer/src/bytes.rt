@@ -14,6 +14,7 @@ fn pair_up(src: &[u8], line: &mut [u16], from: usize, w: usize)
     ensures { Paired from (low_side w) (w / 2) src.now line.new }
 {
     let (pairs, rest) = src[from..from + w].as_chunks::<2>();
+    // Written by index: std says nothing of what a slice holds after a `zip` of its `iter_mut`.
     for (k, pair) in pairs.iter().enumerate() {
         line[k] = u16::from_le_bytes(*pair);
     }
@@ -28,6 +29,7 @@ fn bytes_of<const BYTE: usize>(line: &[u16], dst: &mut [u8], at: usize, n: usize
     requires in_bounds { (n ≤ length line.now) × (at + n ≤ length dst.old) }
     ensures { Written (λ k. get_or line.now k 0 / 256 ^ BYTE % 256) at n dst.old dst.new }
 {
+    // Written by index, as in `pair_up`.
     for (k, pair) in line[..n].iter().enumerate() {
         dst[at + k] = pair.to_le_bytes()[BYTE];
     }
@@ -60,7 +62,7 @@ pub fn place(src: &[u8], dst: &mut [u8], w: usize, h: usize)
 {
     let mut line = [0u16; 2048];
     let low = h - h / 2;
-    // A row's number tells which row comes there.
+    // Rows by their number: it tells which row comes there.
     for n in 0..h {
         pair_up(src, &mut line, source(n, low) * w, w);
         part(&line, dst, n * w, w);

@@ -23,7 +23,7 @@ pub fn copy_rows<T: Copy>(
     requires { Rows src.now (λ i. from + i * step) (λ i. at + i * stride) m n dst.old }
     ensures { (o : T) → Moved o src.now (λ i. from + i * step) (λ i. at + i * stride) m n dst.old dst.new }
 {
-    // A row's number gives its place in either buffer.
+    // Rows by their number: std says nothing of what a slice holds after `chunks_mut`.
     for i in 0..m {
         let begin = from + i * step;
         let to = at + i * stride;
@@ -48,7 +48,7 @@ pub fn take<T: Copy>(buf: &[T], strip: &mut [T], start: usize, step: usize, w: u
     ensures { (o : T) → PartedStrip o buf.now start step w lanes strip.old strip.new }
 {
     let low = w - w / 2;
-    // A row's number gives its place in the buffer and in the strip.
+    // Rows by their number: it tells which row comes there, and std says nothing of what a slice holds after `chunks_mut`.
     for n in 0..w {
         let begin = start + source(n, low) * step;
         let to = n * lanes;

@@ -18,7 +18,7 @@ pub fn part<T: Copy + Into<i32>>(
         → Twofold (pos 0) (λ k. number (get_or src.now (from + 2 * k) o)) (λ k. number (get_or src.now (from + 2 * k + 1) o)) (λ k. a + k) (λ k. b + k) (low_side w) (w / 2) dst.old dst.new }
 {
     let n = w / 2;
-    // Both parts stand in one buffer, either before the other: a turn writes at two places of it.
+    // By index: both parts stand in one buffer, either before the other, and a turn writes at two places of it.
     for k in 0..n {
         dst[a + k] = src[from + 2 * k].into();
         dst[b + k] = src[from + 2 * k + 1].into();
@@ -35,6 +35,7 @@ pub fn weave(src: &[i32], dst: &mut [i32], a: usize, b: usize, at: usize, w: usi
     ensures { Twofold (pos 0) (λ k. get_or src.now (a + k) (pos 0)) (λ k. get_or src.now (b + k) (pos 0)) (λ k. at + 2 * k) (λ k. at + 2 * k + 1) (low_side w) (w / 2) dst.old dst.new }
 {
     let n = w / 2;
+    // By index: std says nothing of what a slice holds after `as_chunks_mut`.
     for k in 0..n {
         dst[at + 2 * k] = src[a + k];
         dst[at + 2 * k + 1] = src[b + k];
