@@ -190,7 +190,8 @@ pub fn run_pairs<P: Pair>(l: &mut [i32], a: usize, b: usize, n: usize)
 {
     // By index: both runs are in one buffer, and which of them comes first, to part it there, is not told.
     for k in 0..n {
-        let (x, y) = P::both(l[a + k], l[b + k]);
+        let second = l[b + k];
+        let (x, y) = P::both(l[a + k], second);
         l[a + k] = x;
         l[b + k] = y;
     }
@@ -213,6 +214,7 @@ pub fn run<S: Lift>(l: &mut [i32], p: Taps, n: usize, add: bool)
             after: l[p.after + k],
             after2: l[p.after2 + k],
         };
-        l[p.at + k] = steps::shifted(l[p.at + k], S::amount(x), add);
+        let amount = S::amount(x);
+        l[p.at + k] = steps::shifted(l[p.at + k], amount, add);
     }
 }
