@@ -190,8 +190,7 @@ pub fn run_pairs<P: Pair>(l: &mut [i32], a: usize, b: usize, n: usize)
 {
     // By index: both runs are in one buffer, and which of them comes first, to part it there, is not told.
     for k in 0..n {
-        let second = l[b + k];
-        let (x, y) = P::both(l[a + k], second);
+        let (x, y) = P::both(l[a + k], l[b + k]);
         l[a + k] = x;
         l[b + k] = y;
     }
