@@ -38,20 +38,6 @@ straight_between s M n r low high = record {
   after = λ i d h p. omega (arith, inside_here M (n + i + d) 0 (omega arith) (omega arith), inside_here M (n + d) 0 (omega arith) (omega arith));
 }
 
-pub look_two : (s : Step) → (look_back s ≤ 2) × (look_ahead s ≤ 2)
-look_two SPlusP = omega arith
-look_two TT = omega arith
-look_two High = omega arith
-look_two Low = omega arith
-
--- the taps, from what their computation gives
-pub taps_same : (s : Step) (M u v t n : ℕ) {at here before2 before after after2 back ahead one-back one-ahead : ℕ}
-    → back ≡ look_back s → ahead ≡ look_ahead s → one-back ≡ min 1 back → one-ahead ≡ min 1 ahead
-    → at ≡ u + n * t → here ≡ v + inside M n 0 * t → before2 ≡ v + inside M n back * t → before ≡ v + inside M n one-back * t
-    → after ≡ v + inside M (n + one-ahead) 0 * t → after2 ≡ v + inside M (n + ahead) 0 * t
-    → record { at = at; here = here; before2 = before2; before = before; after = after; after2 = after2 } ≡ taps_of s M u v t n
-taps_same s M u v t n b a ob oa p q r w x y = rw (p, q, r, w, x, y, ob, oa, b, a)
-
 -- ---- what a run computes
 module _ {s : Step} {M n r t c : ℕ} (x : EndToEnd t c r) (st : Straight s M n r) (l : List ℤ) (i j : ℕ) (h : i < r) where
   cell_here : (u : ℕ) → cell l (u + (n + i) * t + j) ≡ cell l (u + n * t + (i * c + j))

@@ -118,9 +118,6 @@ module _ (join : Bool) {a b t c : ℕ} {l l' : List ℤ} where
 
 -- the places of such a run
 module _ (n r : ℕ) {a b t c size : ℕ} (g : Parts a b t (n + r) (n + r) c size) (x : EndToEnd t c r) (some : 0 < r) where
-  pub pair_places : (a + n * t < size) × (b + n * t < size)
-  pair_places = (omega (arith, g.first.place n 0 (omega arith) g.lines), omega (arith, g.second.place n 0 (omega arith) g.lines))
-
   pub pairs_inside : (a + n * t + r * c ≤ size) × (b + n * t + r * c ≤ size)
   pairs_inside = (run_inside n r g.first x some g.lines (omega arith), run_inside n r g.second x some g.lines (omega arith))
 

@@ -2,7 +2,7 @@
 use mathlib.Core.Path.{◌≡◌}
 use mathlib.Core.Bool.{Bool}
 use mathlib.Core.List.{List}
-use Prim.Native.Nat.{ℕ, ◌+◌, ◌-◌, ◌^◌, ◌<◌, ◌≤◌, min, max}
+use Prim.Native.Nat.{ℕ, ◌+◌, ◌-◌, ◌^◌, ◌<◌, ◌≤◌, min}
 use native.Mathlib.Omega.{arith}
 use lib.Dec.{T, ltb}
 use lib.IntN.{ℤ}
@@ -91,19 +91,16 @@ makes_join Paired undo p d e f l l' l'' x low high y z = pair_join undo x.parts 
 makes_join (Moved s) undo p d e f l l' l'' x low high y z = lift_join x.parts high y f low high x.top z
 
 -- ---- rows d up to f, then as one run up to h, where no row outside is looked at, and then up to e
-module _ (k : Stage) (undo : Bool) (p : TwoParts) (d e : ℕ) (l : List ℤ) (x : Takes k undo p d e l) (back ahead f seen : ℕ)
-    (first : f ≡ max d back) (last : seen ≡ min p.lows (e + ahead)) (some : f + ahead < seen) where
-  low : d ≤ f
-  low = omega (arith, first)
-
+module _ (k : Stage) (undo : Bool) (p : TwoParts) (d e : ℕ) (l : List ℤ) (x : Takes k undo p d e l) (ahead f seen : ℕ)
+    (low : d ≤ f) (some : f + ahead < seen) (reach : seen ≤ e + ahead) where
   high : seen - ahead ≤ e
-  high = omega (arith, last)
+  high = omega (arith, reach)
 
   run_rows : f + (seen - ahead - f) ≡ seen - ahead
   run_rows = omega arith
 
-  pub alike_run : back ≡ stage_back k → ahead ≡ stage_ahead k → Alike k p.lows f (seen - ahead - f)
-  alike_run b a = alike_between k p.lows f (seen - ahead - f) (omega (arith, first, b)) (omega (arith, last, a))
+  pub alike_run : {back : ℕ} → back ≡ stage_back k → ahead ≡ stage_ahead k → back ≤ f → seen ≤ p.lows → Alike k p.lows f (seen - ahead - f)
+  alike_run b a back inside = alike_between k p.lows f (seen - ahead - f) (omega (arith, b)) (omega (arith, a, inside))
 
   pub takes_first : Takes k undo p d f l
   takes_first = takes_part k undo p d e d f l x (omega arith) (omega (arith, high))

@@ -63,6 +63,7 @@ fn taps<S: Lift>(size: usize, p: TwoParts, n: usize) -> Taps
 
 // What a kernel does with rows of two parts, or undoes, and how many rows back and ahead it looks. `undo` is a flag through all of lifting: kernel 3's
 // second step turns it, and a const argument can't be computed.
+// Stages and what calls them are inlined: in a line of one lane a row is one number, and compiled for that it needs no loop.
 trait OnRows {
     // Which of the stages it is.
     ghost stage: { Stage };
@@ -108,6 +109,7 @@ impl<S: Lift> OnRows for Moves<S> {
 
     ghost ahead_is = { S.ahead_is };
 
+    #[inline(always)]
     fn rows(l: &mut [i32], p: TwoParts, n: usize, r: usize, undo: bool) {
         let taps = taps::<S>(l.len(), p, n);
         runs::run::<S>(l, taps, r * p.lanes, undo);
@@ -132,6 +134,7 @@ impl OnRows for Pairs {
 
     ghost ahead_is = { refl };
 
+    #[inline(always)]
     fn rows(l: &mut [i32], p: TwoParts, n: usize, r: usize, undo: bool) {
         let first = row_start(l.len(), p.a, n, p.step);
         let second = row_start(l.len(), p.b, n, p.step);
@@ -144,6 +147,7 @@ impl OnRows for Pairs {
 }
 
 // The rows d up to e, one at a time.
+#[inline(always)]
 fn each_row<T: OnRows>(l: &mut [i32], p: TwoParts, d: usize, e: usize, undo: bool)
     requires d_le_e { d ≤ e }
     requires takes { Takes T.stage undo p d e l.old }
@@ -155,6 +159,7 @@ fn each_row<T: OnRows>(l: &mut [i32], p: TwoParts, d: usize, e: usize, undo: boo
 }
 
 // The same. Where the rows lie end to end, those whose neighbours the border rule gives go one at a time, those between as one run.
+#[inline(always)]
 fn all_rows<T: OnRows>(l: &mut [i32], p: TwoParts, d: usize, e: usize, undo: bool)
     requires d_le_e { d ≤ e }
     requires takes { Takes T.stage undo p d e l.old }
@@ -176,6 +181,7 @@ fn all_rows<T: OnRows>(l: &mut [i32], p: TwoParts, d: usize, e: usize, undo: boo
 
 // The first step of a kernel, or that step undone, on the rows d up to e, as far as there are: kernels 0 to 2 make means and differences of pairs and
 // leave an unpaired low as it is, kernel 3 takes what it predicts off the highs.
+#[inline(always)]
 pub fn first_step(kernel: Kernel, undo: bool, l: &mut [i32], p: TwoParts, d: usize, e: usize)
     requires d_le_e { (d ≤ e) × (e ≤ p.lows) × (0 < p.lows) }
     requires parts { Parts p.a p.b p.step p.lows p.highs p.lanes (length l.old) }
@@ -193,6 +199,7 @@ pub fn first_step(kernel: Kernel, undo: bool, l: &mut [i32], p: TwoParts, d: usi
 
 // The second step, or that step undone, on the rows d up to e, as far as there are: kernels 1 and 2 take what they predict off the highs, kernel 3
 // smooths the lows, if there are highs.
+#[inline(always)]
 pub fn second_step(kernel: Kernel, undo: bool, l: &mut [i32], p: TwoParts, d: usize, e: usize)
     requires d_le_e { (d ≤ e) × (e ≤ p.lows) × (e ≤ p.highs + 1) × (0 < p.lows) }
     requires parts { Parts p.a p.b p.step p.lows p.highs p.lanes (length l.old) }
@@ -220,7 +227,7 @@ pub fn second_step(kernel: Kernel, undo: bool, l: &mut [i32], p: TwoParts, d: us
     }
 }
 
-// The transforms of `lanes` lines, whose evens stand at a and whose odds at b: the lows take the evens' place, the highs the odds'.
+// The transforms of `lanes` lines, whose evens are the first part and whose odds the second: the lows take the evens' place, the highs the odds'.
 pub fn forward(kernel: Kernel, l: &mut [i32], p: TwoParts)
     requires lows_nonzero { (0 < p.lows) × (p.highs ≤ p.lows) × (p.lows ≤ p.highs + 1) }
     requires parts { Parts p.a p.b p.step p.lows p.highs p.lanes (length l.old) }
@@ -232,7 +239,7 @@ pub fn forward(kernel: Kernel, l: &mut [i32], p: TwoParts)
     second_step(kernel, false, l, p, 0, p.lows);
 }
 
-// The way back: the lows of `lanes` lines stand at a, their highs at b, and the lines' evens and odds take their place.
+// The way back: the lows of `lanes` lines are the first part, their highs the second, and the lines' evens and odds take their place.
 pub fn back(kernel: Kernel, l: &mut [i32], p: TwoParts)
     requires lows_nonzero { (0 < p.lows) × (p.highs ≤ p.lows) × (p.lows ≤ p.highs + 1) }
     requires parts { Parts p.a p.b p.step p.lows p.highs p.lanes (length l.old) }

@@ -213,6 +213,7 @@ pub fn run<S: Lift>(l: &mut [i32], p: Taps, n: usize, add: bool)
             after: l[p.after + k],
             after2: l[p.after2 + k],
         };
-        l[p.at + k] = steps::shifted(l[p.at + k], S::amount(x), add);
+        let amount = S::amount(x);
+        l[p.at + k] = steps::shifted(l[p.at + k], amount, add);
     }
 }

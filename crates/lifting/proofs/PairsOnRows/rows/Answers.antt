@@ -1,14 +1,8 @@
 -- The pairs of a run of rows become means and differences, or pairs again. Assumes nothing.
 use mathlib.Core.Bool.{true, false}
 use native.Mathlib.Omega.{arith}
-use Rattle.lifting.proofs.Stages.{pair_run, pair_places, pairs_inside, pairs_apart, pairs_able}
+use Rattle.lifting.proofs.Stages.{pair_run, pairs_inside, pairs_apart, pairs_able}
 use Rattle.lifting.proofs.PairsOnRows.rows.Goals as goal
-
-pub row_start-first-requires : goal.row_start-first-requires
-row_start-first-requires c = (pair_places c.args.n c.args.r c.requires.takes.parts c.requires.end_to_end c.requires.r_nonzero).0
-
-pub row_start-second-requires : goal.row_start-second-requires
-row_start-second-requires c = (pair_places c.args.n c.args.r c.requires.takes.parts c.requires.end_to_end c.requires.r_nonzero).1
 
 pub overflow_mul-r : goal.overflow_mul-r
 overflow_mul-r c = omega (arith, pairs_inside c.args.n c.args.r c.requires.takes.parts c.requires.end_to_end c.requires.r_nonzero)
