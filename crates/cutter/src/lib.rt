@@ -47,7 +47,7 @@ fn cut_read(
     if out.len() < wanted {
         return Err(Refusal::Room(wanted));
     }
-    transfer::bytes::copy(stream, out, 0, 0, wanted);
+    out[..wanted].copy_from_slice(&stream[..wanted]);
     header::put_four(out, 0, wanted - 4);
     Ok(wanted)
 }

@@ -2,4 +2,5 @@
 pub mod Rows
 pub mod Lifts
 pub mod Stages
+pub mod Walks
 pub mod TwoSteps

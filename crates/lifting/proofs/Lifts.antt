@@ -15,13 +15,12 @@ use Rattle.line.specs.Transform.{inside, predict}
 use Rattle.line.proofs.Border.{inside_in, inside_here}
 use Rattle.line.proofs.Local.{predict-reach, update_some, update_local}
 use Rattle.steps.specs.Moved.{moved}
-use Rattle.runs.specs.declared.Step.{Step}
-use Rattle.runs.specs.declared.Step.TheVariants.{SPlusP, TT, High, Low}
+use Rattle.runs.specs.Step.{Step, SPlusP, TT, High, Low}
 use Rattle.runs.specs.declared.Taps.{Taps}
 use Rattle.runs.specs.Cells.{Written}
-use Rattle.runs.specs.Steps.{amount_at, moved_at, Apart, tap_bound, Room, Near, Stays}
+use Rattle.runs.specs.Steps.{look_back, look_ahead, amount_at, moved_at, Apart, tap_bound, Room, Near, Stays}
 use Rattle.lifting.specs.Parts.{lane, Parts, Bounded}
-use Rattle.lifting.specs.Steps.{amount, look_back, look_ahead, movable, moved_row, taps_of, Straight, EndToEnd, Fit, Lifted}
+use Rattle.lifting.specs.Steps.{amount, movable, moved_row, taps_of, Straight, EndToEnd, Fit, Lifted}
 use Rattle.lifting.proofs.Rows.{row_place, row_in, line_in, run_place, run_inside, run_bounded, rows_none, rows_run, rows_join, rows_old, rows_other, parts_as, bounded_as}
 
 -- ---- which runs of rows are straight
@@ -38,20 +37,6 @@ straight_between s M n r low high = record {
   before = λ i d h p. omega (arith, inside_here M (n + i) d (omega arith) (omega arith), inside_here M n d (omega arith) (omega arith));
   after = λ i d h p. omega (arith, inside_here M (n + i + d) 0 (omega arith) (omega arith), inside_here M (n + d) 0 (omega arith) (omega arith));
 }
-
-pub look_two : (s : Step) → (look_back s ≤ 2) × (look_ahead s ≤ 2)
-look_two SPlusP = omega arith
-look_two TT = omega arith
-look_two High = omega arith
-look_two Low = omega arith
-
--- the taps, from what their computation gives
-pub taps_same : (s : Step) (M u v t n : ℕ) {at here before2 before after after2 back ahead one-back one-ahead : ℕ}
-    → back ≡ look_back s → ahead ≡ look_ahead s → one-back ≡ min 1 back → one-ahead ≡ min 1 ahead
-    → at ≡ u + n * t → here ≡ v + inside M n 0 * t → before2 ≡ v + inside M n back * t → before ≡ v + inside M n one-back * t
-    → after ≡ v + inside M (n + one-ahead) 0 * t → after2 ≡ v + inside M (n + ahead) 0 * t
-    → record { at = at; here = here; before2 = before2; before = before; after = after; after2 = after2 } ≡ taps_of s M u v t n
-taps_same s M u v t n b a ob oa p q r w x y = rw (p, q, r, w, x, y, ob, oa, b, a)
 
 -- ---- what a run computes
 module _ {s : Step} {M n r t c : ℕ} (x : EndToEnd t c r) (st : Straight s M n r) (l : List ℤ) (i j : ℕ) (h : i < r) where
@@ -118,11 +103,13 @@ module _ (s : Step) (M n r c u v t : ℕ) (l : List ℤ) (p : Taps) (e : p ≡ t
 
     pub run_near : Bounded (tap_bound s) v t M c l → Near s l p (r * c)
     run_near g = rw e (record {
-      here = run_bounded _ g x (here_rows st some other 0);
-      before2 = run_bounded _ g x (before_rows st some other (look_back s) (omega arith));
-      before = run_bounded _ g x (before_rows st some other (min 1 (look_back s)) (omega arith));
-      after = run_bounded _ g x (after_rows st some other (min 1 (look_ahead s)) (omega arith));
-      after2 = run_bounded _ g x (after_rows st some other (look_ahead s) (omega arith));
+      each = λ k h. record {
+        here = run_bounded _ g x (here_rows st some other 0) k h;
+        before2 = run_bounded _ g x (before_rows st some other (look_back s) (omega arith)) k h;
+        before = run_bounded _ g x (before_rows st some other (min 1 (look_back s)) (omega arith)) k h;
+        after = run_bounded _ g x (after_rows st some other (min 1 (look_ahead s)) (omega arith)) k h;
+        after2 = run_bounded _ g x (after_rows st some other (look_ahead s) (omega arith)) k h;
+      };
     })
 
   moved_at-moved_row : (add : Bool) (i j : ℕ) → i < r → moved_at s add l p (i * c + j) ≡ moved_row s add M u v t l (n + i) j

@@ -4,6 +4,7 @@
 --
 -- Assumes nothing.
 use mathlib.Core.Path.{◌≡◌, refl, sym, ap, ap₂, ◌∙◌}
+use mathlib.Core.Logic.{◌⊎◌, inl, inr}
 use mathlib.Core.Bool.{Bool, true, false}
 use mathlib.Core.List.{List}
 use Prim.Native.Nat.{ℕ, ◌+◌, ◌*◌, ◌-◌, ◌/◌, ◌%◌, ◌^◌, ◌<◌, ◌≤◌, min}
@@ -16,6 +17,7 @@ use borrow.Author.Tests.{lt-ltb, le-ltb}
 use mir.Syntax.{w32}
 use Rattle.whole.specs.Within.{Within}
 use Rattle.whole.proofs.Linear.{lin, ι_split, within_fits}
+use Rattle.kernel.specs.declared.Kernel.{Kernel}
 use Rattle.kernel.specs.declared.Kernel.TheVariants as kernel
 use Rattle.line.specs.Cells.{Line, cell}
 use Rattle.line.specs.Inner.{AllWithin, Agree}
@@ -24,13 +26,14 @@ use Rattle.line.proofs.Bounds.{add_within, sub_within, first_within, second_with
 use Rattle.line.proofs.Cells.{by_lt}
 use Rattle.steps.specs.Moved.{moved}
 use Rattle.runs.specs.Cells.{Pairs}
-use Rattle.runs.specs.declared.Step.{Step}
-use Rattle.runs.specs.declared.Step.TheVariants.{SPlusP, TT, High, Low}
+use Rattle.runs.specs.Step.{Step, SPlusP, TT, High, Low}
 use Rattle.lifting.specs.Parts.{lane, Parts, Bounded, Both}
 use Rattle.lifting.specs.Steps.{amount, movable, EndToEnd, Fit, Lifted}
-use Rattle.lifting.specs.Lines.{pair_first, pair_second, firsts, seconds, pair_lows, PairFit, Pairable, RowsWithin}
-use Rattle.lifting.proofs.Rows.{row_place, row_in, line_in, run_place, same_row, parts_swap, rows_other}
-use Rattle.lifting.proofs.Lifts.{amount_local}
+use Rattle.runs.specs.Steps.{Apart}
+use Rattle.runs.specs.Pair.{pair_first, pair_second, PairFit}
+use Rattle.lifting.specs.Lines.{firsts, seconds, pair_lows, Pairable, RowsWithin, first_lows, first_highs}
+use Rattle.lifting.proofs.Rows.{run_inside, row_place, row_in, line_in, run_place, same_row, parts_swap, rows_other}
+use Rattle.lifting.proofs.Lifts.{amount_local, runs_apart}
 
 abbrev pub Local : ℕ → ℕ → ℕ → (Line ℤ → Line ℤ → Line ℤ) → Type 0
 Local r p q F = (A A' B B' : Line ℤ) → Agree p A A' → Agree q B B' → Agree r (F A B) (F A' B')
@@ -113,6 +116,14 @@ module _ (join : Bool) {a b t c : ℕ} {l l' : List ℤ} where
         (λ k h e. z (n + k / c) (k % c) (omega arith) (omega (arith, row_in x b n k h)) (line_in x b n k h) (e ∙ run_place x b n k h));
   }
 
+-- the places of such a run
+module _ (n r : ℕ) {a b t c size : ℕ} (g : Parts a b t (n + r) (n + r) c size) (x : EndToEnd t c r) (some : 0 < r) where
+  pub pairs_inside : (a + n * t + r * c ≤ size) × (b + n * t + r * c ≤ size)
+  pairs_inside = (run_inside n r g.first x some g.lines (omega arith), run_inside n r g.second x some g.lines (omega arith))
+
+  pub pairs_apart : Apart (a + n * t) (b + n * t) (r * c)
+  pairs_apart = runs_apart n n r g x (omega arith) (omega arith)
+
 -- ---- the first part of K pairs, and of a number behind them
 module _ (join : Bool) (K n : ℕ) (A B : Line ℤ) where
   pub lows_pair : n < K → pair_lows join K A B n ≡ pair_first join (A n) (B n)
@@ -136,6 +147,13 @@ pairs_some join {a} {b} {t} {c} {p} {q} d e g top f = record {
   second = λ n j o h k. f.second n j (omega arith) h k;
   off = λ i u v. f.off i (λ n j o h k. u n j (omega arith) (omega arith) k) (λ n j o h k. v n j (omega arith) h k);
 }
+
+-- which is the first step of kernels 0 to 2
+pub first_pairs : {k : Kernel} (undo : Bool) (M K : ℕ) {a b t c d e f : ℕ} {l l' : List ℤ} → (k ≡ kernel.S) ⊎ (k ≡ kernel.SPlusP) ⊎ (k ≡ kernel.TT)
+    → Both (pair_lows undo K) (seconds undo) a b t c d e f l l' → Both (first_lows undo k K) (first_highs undo k M) a b t c d e f l l'
+first_pairs undo M K (inl e) x = rw e x
+first_pairs undo M K (inr (inl e)) x = rw e x
+first_pairs undo M K (inr (inr e)) x = rw e x
 
 pub pairs_able : (join : Bool) {a b t c r : ℕ} {l : List ℤ} (n : ℕ) → EndToEnd t c r → Pairable join a b t c n (n + r) l
     → (k : ℕ) → k < r * c → PairFit join (cell l (a + n * t + k)) (cell l (b + n * t + k))

@@ -23,10 +23,11 @@ use Rattle.line.proofs.Bounds.{mean_within, difference_within, within_more}
 use Rattle.line.proofs.Cells.{by_lt, paired_even, paired_odd}
 use Rattle.line.proofs.Local.{means_pair, means_alone, first_pair, first_alone, predict-reach, update_local, update_there}
 use Rattle.steps.specs.Moved.{moved}
-use Rattle.runs.specs.declared.Step.TheVariants.{SPlusP, TT, High, Low}
+use Rattle.runs.specs.Step.{SPlusP, TT, High, Low}
 use Rattle.lifting.specs.Parts.{lane, Bounded, Both}
-use Rattle.lifting.specs.Lines as parts
-use Rattle.lifting.specs.Lines.{pair_second, seconds, pair_lows, RowsWithin, first_lows, first_highs, second_lows, second_highs, SecondTakes, lows_of, highs_of}
+use Rattle.runs.specs.Pair as pair
+use Rattle.runs.specs.Pair.{pair_second}
+use Rattle.lifting.specs.Lines.{seconds, pair_lows, RowsWithin, first_lows, first_highs, second_lows, second_highs, SecondTakes, lows_of, highs_of}
 use Rattle.lifting.proofs.Stages.{Local, lows_pair, lows_alone, both_as, both_then, moved_within, amount_within, first_local, second_local, moves_second_local, moves_first_local}
 
 -- ---- the second step and then the first, undone
@@ -85,7 +86,7 @@ module _ (M K : ℕ) (A B : Line ℤ) (le : K ≤ M) where
 module _ (undo : Bool) {M K : ℕ} (le : K ≤ M) where
   pair_lows_local : Local M M K (pair_lows undo K)
   pair_lows_local A A' B B' x y n h = by_lt n K
-      (λ lt. rw (lows_pair undo K n A B lt, lows_pair undo K n A' B' lt) (ap₂ (parts.pair_first undo) (x n h) (y n lt)))
+      (λ lt. rw (lows_pair undo K n A B lt, lows_pair undo K n A' B' lt) (ap₂ (pair.pair_first undo) (x n h) (y n lt)))
       (λ ge. rw (lows_alone undo K n A B ge, lows_alone undo K n A' B' ge) (x n h))
 
   pair_second_local : Local K M K (seconds undo)
@@ -137,7 +138,7 @@ module _ (undo : Bool) (M K n v q r : ℕ) (A B A' B' : Line ℤ) (h : r < v) (t
     where
       low-there : pair_lows undo q A' B' r ≡ pair_lows undo K A B (n + r)
       low-there = by_lt r q
-          (λ lt. lows_pair undo q r A' B' lt ∙ ap₂ (parts.pair_first undo) x (y lt) ∙ sym (lows_pair undo K (n + r) A B (omega arith)))
+          (λ lt. lows_pair undo q r A' B' lt ∙ ap₂ (pair.pair_first undo) x (y lt) ∙ sym (lows_pair undo K (n + r) A B (omega arith)))
           (λ ge. lows_alone undo q r A' B' ge ∙ x ∙ sym (lows_alone undo K (n + r) A B (omega arith)))
 
       go : (j : Kernel) → first_lows undo j q A' B' r ≡ first_lows undo j K A B (n + r)

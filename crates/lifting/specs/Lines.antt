@@ -1,12 +1,9 @@
 -- The stages of the kernels, on the two parts of a line.
 --
---   pair_first join x y   == the mean of the pair x, y; or the first of the pair of mean x and difference y
---   pair_second join x y  == its difference; or the second of the pair
---   firsts join A B       == that for the parts A and B of a line
---   seconds join A B
+--   firsts join A B       == the first that becomes of each pair of the parts A and B of a line
+--   seconds join A B      == the second
 --   pair_lows join K A B  == the first for K pairs, and the numbers of A behind them as they are
---   PairFit join x y      == what makes it fit 32 bits
---   Pairable join .. l    == that for the rows d up to e of the parts at a and b
+--   Pairable join .. l    == what makes them fit 32 bits, for the rows d up to e of the parts at a and b
 --   RowsWithin r .. d e l == the numbers of rows d up to e of a part are within r
 --   first_lows undo k K A B
 --                         == the first step of kernel k on a line's parts A and B, of which B has K, or that step undone: the first part
@@ -21,27 +18,17 @@
 --   highs_of k M K A B    == its highs
 --
 -- Assumes nothing: these are definitions.
-use Rattle.std.specs.Prelude.{Bool, true, false, not, List, ℕ, ◌^◌, ◌<◌, ◌≤◌, min, ltb, ℤ}
-use Rattle.std.specs.Int.{w32}
-use Rattle.std.proofs.Common.{SFits}
+use Rattle.std.specs.Prelude.{Bool, not, List, ℕ, ◌^◌, ◌<◌, ◌≤◌, min, ltb, ℤ}
 use Rattle.whole.specs.Within.{Within}
 use Rattle.kernel.specs.declared.Kernel.{Kernel}
 use Rattle.kernel.specs.declared.Kernel.TheVariants.{S, SPlusP, TT, FiveThree}
 use Rattle.line.specs.Cells.{Line, choose, paired}
-use Rattle.line.specs.Formulas.{mean, difference, first_of, second_of}
 use Rattle.line.specs.Transform.{low, high}
 use Rattle.steps.specs.Moved.{moved}
-use Rattle.runs.specs.declared.Step.TheVariants as step
+use Rattle.runs.specs.Pair.{pair_first, pair_second, PairFit}
+use Rattle.runs.specs.Step as step
 use Rattle.lifting.specs.Parts.{lane, Bounded}
 use Rattle.lifting.specs.Steps.{amount}
-
-abbrev pub pair_first : Bool → ℤ → ℤ → ℤ
-pair_first false x y = mean x y
-pair_first true x y = first_of x y
-
-abbrev pub pair_second : Bool → ℤ → ℤ → ℤ
-pair_second false x y = difference x y
-pair_second true x y = second_of x y
 
 abbrev pub firsts : Bool → Line ℤ → Line ℤ → Line ℤ
 firsts join A B n = pair_first join (A n) (B n)
@@ -51,10 +38,6 @@ seconds join A B n = pair_second join (A n) (B n)
 
 unfoldable pub pair_lows : Bool → ℕ → Line ℤ → Line ℤ → Line ℤ
 pair_lows join K A B n = choose (ltb n K) (firsts join A B n) (A n)
-
-abbrev pub PairFit : Bool → ℤ → ℤ → Type 0
-PairFit false x y = Within (2 ^ 29) x × Within (2 ^ 29) y
-PairFit true x y = SFits w32 (first_of x y) × SFits w32 (second_of x y)
 
 pub record Pairable (join : Bool) (a b t c d e : ℕ) (l : List ℤ) : Type 0 where
   pub each : (n j : ℕ) → d ≤ n → n < e → j < c → PairFit join (lane a t l j n) (lane b t l j n)

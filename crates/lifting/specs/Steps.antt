@@ -1,8 +1,6 @@
 -- Lifting steps on a part of c lines, from the M numbers of the other part of each.
 --
 --   amount s M x n        == what step s moves a number n by, from the line x
---   look_back s           == how many rows back step s looks
---   look_ahead s          == how many rows ahead
 --   movable s M           == how many rows it can move from M rows: a line of odd length has one low more than highs, which kernel 3 moves from its highs
 --   taps_of s M u v t n   == where row n of the part at u begins, and the rows of the part at v that it is moved from; the border rule says which
 --   moved_row s add M u v t l n j
@@ -21,8 +19,8 @@ use Rattle.kernel.specs.declared.Kernel.TheVariants as kernel
 use Rattle.line.specs.Cells.{Line}
 use Rattle.line.specs.Transform.{inside, predict, update}
 use Rattle.steps.specs.Moved.{moved}
-use Rattle.runs.specs.declared.Step.{Step}
-use Rattle.runs.specs.declared.Step.TheVariants.{SPlusP, TT, High, Low}
+use Rattle.runs.specs.Step.{Step, SPlusP, TT, High, Low}
+use Rattle.runs.specs.Steps.{look_back, look_ahead}
 use Rattle.runs.specs.declared.Taps.{Taps}
 use Rattle.lifting.specs.Parts.{lane, Rows}
 
@@ -31,18 +29,6 @@ amount SPlusP M x n = predict kernel.SPlusP M x n
 amount TT M x n = predict kernel.TT M x n
 amount High M x n = predict kernel.FiveThree M x n
 amount Low M x n = update M x n
-
-abbrev pub look_back : Step → ℕ
-look_back SPlusP = 1
-look_back TT = 2
-look_back High = 0
-look_back Low = 1
-
-abbrev pub look_ahead : Step → ℕ
-look_ahead SPlusP = 1
-look_ahead TT = 2
-look_ahead High = 1
-look_ahead Low = 0
 
 abbrev pub movable : Step → ℕ → ℕ
 movable SPlusP M = M

@@ -18,16 +18,15 @@ use Rattle.line.specs.Transform.{undone_evens, undone_odds, forward, back}
 use Rattle.line.proofs.Cells.{by_lt, by_parity}
 use Rattle.line.proofs.Local.{forward_local, back_local}
 use Rattle.line.specs.Cells.{low_side}
-use Rattle.grid.specs.Buffer.{strided, InBuffer, Lines}
+use Rattle.grid.specs.Buffer.{strided, InBuffer, Put, Lines}
 use Rattle.grid.specs.Placed.{woven}
 use Rattle.grid.proofs.Parted.{woven_even, woven_odd, parted_even, parted_odd}
 use Rattle.lifting.specs.Parts.{lane, Parts, Bounded, Both}
 use Rattle.lifting.specs.Lines.{lows_of, highs_of}
-use Rattle.transfer.specs.Copied.{Room, Copied}
-use Rattle.transfer.specs.Moved.{Rows, Moved, Twofold}
-use Rattle.transfer.proofs.Strips.{some_rows}
+use Rattle.transfer.specs.Copied.{Copied}
+use Rattle.transfer.specs.Moved.{Twofold}
+use Rattle.transfer.specs.Parting.{PartedStrip}
 use Rattle.passes.specs.Passes.{Takes}
-use Rattle.passes.proofs.Places.{even_place, odd_place}
 use Rattle.passes.proofs.Forms.{forward_form, back_form}
 
 -- ---- two parts of c lines, one behind the other, in q
@@ -76,15 +75,8 @@ module _ {l : List ℤ} {s t w c : ℕ} {q : List ℤ} (h : Halved l s t w c q) 
       }
 
 -- ---- a row
-module _ {l : List ℤ} {at : ℕ} (w : ℕ) (i : InBuffer l at 1 w 1) where
-  pub row_out : {q : List ℤ} → w ≤ length q → Room l at 0 w q
-  row_out h = record { source = λ k r. omega (arith, i.place k 0 r (omega arith)); target = λ k r. omega arith }
-
-  pub row_back_room : {q : List ℤ} → w ≤ length q → Room q 0 at w l
-  row_back_room h = record { source = λ k r. omega arith; target = λ k r. omega (arith, i.place k 0 r (omega arith)) }
-
-  pub row_end : 0 < w → at + w ≤ length l
-  row_end some = omega (arith, i.place (w - 1) 0 (omega arith) (omega arith))
+pub row_end : {l : List ℤ} {at : ℕ} (w : ℕ) → InBuffer l at 1 w 1 → 0 < w → at + w ≤ length l
+row_end w i some = omega (arith, i.place (w - 1) 0 (omega arith) (omega arith))
 
 pub row_halved : (l : List ℤ) (at w : ℕ) {q q' : List ℤ}
     → Twofold (pos 0) (λ k. get_or l (at + 2 * k) (pos 0)) (λ k. get_or l (at + 2 * k + 1) (pos 0)) (λ k. 0 + k) (λ k. low_side w + k) (low_side w) (w / 2) q q' → Halved l at 1 w 1 q'
@@ -142,29 +134,13 @@ module _ (l : List ℤ) (at w : ℕ) {q q' : List ℤ} (p : Copied (pos 0) l at 
       }
 
 -- ---- a strip of columns
-module _ {l : List ℤ} {s t c : ℕ} (h : ℕ) (i : InBuffer l s t h c) where
-  pub strip_evens : {q : List ℤ} → h * c ≤ length q → Rows l (λ n. s + n * (2 * t)) (λ n. 0 + n * c) (low_side h) c q
-  strip_evens le = some_rows i.some
-      (λ n p. record { source = λ j r. rw (even_place s t n j) (i.place (2 * n) j (omega arith) r); target = λ j r. omega (arith, digits_lt {q = n} {m = h} {r = j} {c = c} (omega arith) r) })
-      (λ r n j p k. omega (arith, digits_lt {q = r} {m = n} {r = j} {c = c} p k))
-
-  pub strip_odds : {q : List ℤ} → h * c ≤ length q → Rows l (λ n. s + t + n * (2 * t)) (λ n. low_side h * c + n * c) (h / 2) c q
-  strip_odds le = some_rows i.some
-      (λ n p. record {
-        source = λ j r. rw (odd_place s t n j) (i.place (2 * n + 1) j (omega arith) r);
-        target = λ j r. omega (arith, add-mul (low_side h) n c, digits_lt {q = low_side h + n} {m = h} {r = j} {c = c} (omega arith) r);
-      })
-      (λ r n j p k. omega (arith, digits_lt {q = r} {m = n} {r = j} {c = c} p k))
-
-  pub strip_put : {q : List ℤ} → h * c ≤ length q → Rows q (λ n. 0 + n * c) (λ n. s + n * t) h c l
-  strip_put le = some_rows i.some
-      (λ n p. record { source = λ j r. omega (arith, digits_lt {q = n} {m = h} {r = j} {c = c} p r); target = λ j r. i.place n j p r })
-      (λ r n j p k. omega (arith, digits_lt {q = r} {m = n} {r = j} {c = t} p (omega (arith, i.apart))))
-
-pub strip_halved : (l : List ℤ) (s t h c : ℕ) {q q₁ q₂ : List ℤ} → Moved (pos 0) l (λ n. s + n * (2 * t)) (λ n. 0 + n * c) (low_side h) c q q₁
-    → Moved (pos 0) l (λ n. s + t + n * (2 * t)) (λ n. low_side h * c + n * c) (h / 2) c q₁ q₂ → Halved l s t h c q₂
-strip_halved l s t h c p r = record {
-  evens = λ n j i k. r.off (0 + n * c + j) (λ n' j' i' k' e. omega (arith, digits_lt {q = n} {m = low_side h} {r = j} {c = c} i k)) ∙ p.on n j i k
-      ∙ ap (λ (x : ℕ). get_or l x (pos 0)) (even_place s t n j ∙ omega arith);
-  odds = λ n j i k. r.on n j i k ∙ ap (λ (x : ℕ). get_or l x (pos 0)) (odd_place s t n j ∙ omega arith);
+pub strip_halved : (l : List ℤ) (s t h c : ℕ) {q q' : List ℤ} → PartedStrip (pos 0) l s t h c q q' → Halved l s t h c q'
+strip_halved l s t h c {q} {q'} p = record {
+  evens = λ n j i k. ap (λ (x : ℕ). get_or q' x (pos 0)) (omega arith) ∙ p.on n j (omega arith) k ∙ parted_even h n (strided (pos 0) l (s + j) t) i;
+  odds = λ n j i k. ap (λ (x : ℕ). get_or q' x (pos 0)) (omega (arith, add-mul (low_side h) n c)) ∙ p.on (low_side h + n) j (omega arith) k ∙ parted_odd h n (strided (pos 0) l (s + j) t);
 }
+
+-- put back as it is
+pub strip_forward : (k : Kernel) (l : List ℤ) (s t h c : ℕ) {q q' l' : List ℤ} → Halved l s t h c q
+    → Both (lows_of k (low_side h) (h / 2)) (highs_of k (low_side h) (h / 2)) 0 (low_side h * c) c c 0 (low_side h) (h / 2) q q' → Put (pos 0) q' s t h c l l' → Lines (forward k) (pos 0) s t h c l l'
+strip_forward k l s t h c {q} {q'} p f u = forward_put p k f u.size (λ n j r i. u.on n j r i ∙ ap (λ (x : ℕ). get_or q' x (pos 0)) (omega arith)) u.off

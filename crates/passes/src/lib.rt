@@ -9,44 +9,70 @@ ghost use Rattle.grid.specs.Picture.{row_pass, col_pass, turned, picture};
 ghost use Rattle.grid.specs.Buffer.{strided, InBuffer, Lines};
 ghost use Rattle.runs.specs.Cells.{Written};
 ghost use Rattle.lifting.specs.Parts.{Parts, Bounded};
-ghost use Rattle.passes.specs.Passes.{line_transform, pictured, Takes, Area};
+ghost use Rattle.passes.specs.Passes.{pictured, Takes, Area};
 ghost use Rattle.passes.specs.Pairs.{PairsIn, PairsPlaced, ended_row, PairBack};
 ghost use Rattle.passes.specs.Levels.{level_of, LevelBack};
 
 use kernel::Kernel;
+use lifting::TwoParts;
 
 // How many numbers of working memory a strip of columns takes.
 pub const STRIP: usize = 32768;
 
-// Transforms, in place, a row of w numbers from `at` on, or takes it back, through working memory q.
-fn row(kernel: Kernel, undo: bool, l: &mut [i32], q: &mut [i32], at: usize, w: usize)
+// Transforms, in place, a row of w numbers from `at` on, through working memory q.
+fn row(kernel: Kernel, l: &mut [i32], q: &mut [i32], at: usize, w: usize)
     requires w_nonzero { (0 < w) × (w < 2 ^ 32) × (w ≤ length q.old) }
     requires in_buffer { InBuffer l.old at 1 w 1 }
-    requires takes { Takes undo w (strided (pos 0) l.old (at + 0) 1) }
-    ensures { Lines (line_transform undo kernel) (pos 0) at 1 w 1 l.old l.new }
+    requires takes { Takes false w (strided (pos 0) l.old (at + 0) 1) }
+    ensures { Lines (forward kernel) (pos 0) at 1 w 1 l.old l.new }
 {
     let highs = w / 2;
     let lows = w - highs;
-    if undo {
-        transfer::numbers::copy(l, q, at, 0, w);
-        lifting::back(kernel, q, 0, lows, 1, lows, highs, 1);
-        transfer::numbers::weave(q, l, 0, lows, at, w);
-    } else {
-        transfer::numbers::part(l, q, at, 0, lows, w);
-        lifting::forward(kernel, q, 0, lows, 1, lows, highs, 1);
-        transfer::numbers::copy(q, l, 0, at, w);
-    }
+    let parts = TwoParts {
+        a: 0,
+        b: lows,
+        step: 1,
+        lanes: 1,
+        lows,
+        highs,
+    };
+    transfer::numbers::part(l, q, at, 0, lows, w);
+    lifting::forward(kernel, q, parts);
+    l[at..at + w].copy_from_slice(&q[..w]);
 }
 
-// The row pass over an area of w by h, forward, in rows of stride numbers.
+// Takes such a row back.
+fn row_back(kernel: Kernel, l: &mut [i32], q: &mut [i32], at: usize, w: usize)
+    requires w_nonzero { (0 < w) × (w < 2 ^ 32) × (w ≤ length q.old) }
+    requires in_buffer { InBuffer l.old at 1 w 1 }
+    requires takes { Takes true w (strided (pos 0) l.old (at + 0) 1) }
+    ensures { Lines (back kernel) (pos 0) at 1 w 1 l.old l.new }
+{
+    let highs = w / 2;
+    let lows = w - highs;
+    let parts = TwoParts {
+        a: 0,
+        b: lows,
+        step: 1,
+        lanes: 1,
+        lows,
+        highs,
+    };
+    q[..w].copy_from_slice(&l[at..at + w]);
+    lifting::back(kernel, q, parts);
+    transfer::numbers::weave(q, l, 0, lows, at, w);
+}
+
+// The row pass over an area of w by h, forward, in rows of stride numbers: three numbers, since one struct makes a transform take 1.1 times as long.
 pub fn row_pass(kernel: Kernel, l: &mut [i32], q: &mut [i32], stride: usize, w: usize, h: usize)
     requires area { Area stride w h (length l.old) }
     requires w_in_bounds { w ≤ length q.old }
     requires by_index { (y : ℕ) → y < h → Takes false w (picture (pos 0) stride l.old y) }
     ensures { picture (pos 0) stride l.new ≡ row_pass (forward kernel) w h (picture (pos 0) stride l.old) }
 {
+    // Rows by their number: std says nothing of what a slice holds after `chunks_mut`.
     for y in 0..h {
-        row(kernel, false, l, q, y * stride, w);
+        row(kernel, l, q, y * stride, w);
     }
 }
 
@@ -60,18 +86,24 @@ fn strip(
     h: usize,
     lanes: usize,
 )
-    requires h_nonzero { (0 < h) × (h < 2 ^ 32) × (h * lanes ≤ length q.old) }
-    requires stride_bound { (stride ≤ 2 ^ 32) × InBuffer l.old x stride h lanes }
+    requires h_nonzero { (0 < h) × (h ≤ 4096) × (h * lanes ≤ length q.old) }
+    requires in_buffer { InBuffer l.old x stride h lanes }
     requires by_index { (j : ℕ) → j < lanes → Takes false h (strided (pos 0) l.old (x + j) stride) }
-    ensures { Lines (line_transform false kernel) (pos 0) x stride h lanes l.old l.new }
+    ensures { Lines (forward kernel) (pos 0) x stride h lanes l.old l.new }
 {
     let highs = h / 2;
     let lows = h - highs;
-    let odds = lows * lanes;
-    transfer::numbers::copy_rows(l, q, x, 2 * stride, 0, lanes, lows, lanes);
-    transfer::numbers::copy_rows(l, q, x + stride, 2 * stride, odds, lanes, highs, lanes);
-    lifting::forward(kernel, q, 0, odds, lanes, lows, highs, lanes);
-    transfer::numbers::copy_rows(q, l, 0, lanes, x, stride, h, lanes);
+    let parts = TwoParts {
+        a: 0,
+        b: lows * lanes,
+        step: lanes,
+        lanes,
+        lows,
+        highs,
+    };
+    transfer::take(l, q, x, stride, h, lanes);
+    lifting::forward(kernel, q, parts);
+    transfer::put(q, l, x, stride, h, lanes);
 }
 
 // The column pass over the same area, forward, a strip of columns at a time: as many as working memory holds.
@@ -82,11 +114,9 @@ pub fn col_pass(kernel: Kernel, l: &mut [i32], q: &mut [i32], stride: usize, w: 
     ensures { picture (pos 0) stride l.new ≡ col_pass (forward kernel) w h (picture (pos 0) stride l.old) }
 {
     let most = STRIP / h;
-    let mut x: usize = 0;
-    while x < w {
+    for x in (0..w).step_by(most) {
         let lanes = whole::least(most, w - x);
         strip(kernel, l, q, x, stride, h, lanes);
-        x += lanes;
     }
 }
 
@@ -113,7 +143,7 @@ fn place_pairs(
     let lows = h - highs;
     let at = 2 * a * stride;
     let high_rows = whole::least(b, highs) - whole::least(a, highs);
-    transfer::numbers::copy_rows(
+    transfer::copy_rows(
         plane,
         l,
         a * width + left,
@@ -123,7 +153,7 @@ fn place_pairs(
         b - a,
         right,
     );
-    transfer::numbers::copy_rows(
+    transfer::copy_rows(
         plane,
         l,
         (lows + a) * width,
@@ -154,22 +184,18 @@ fn pair_back(
     requires takes { Takes true w (ended_row false kernel lows highs at stride l.old) × (0 < highs → Takes true w (ended_row true kernel lows highs at stride l.old)) }
     ensures { PairBack kernel lows highs at stride w l.old l.new }
 {
-    lifting::first_step(
-        kernel,
-        true,
-        l,
-        at,
-        at + stride,
-        2 * stride,
+    let parts = TwoParts {
+        a: at,
+        b: at + stride,
+        step: 2 * stride,
+        lanes: w,
         lows,
         highs,
-        w,
-        0,
-        1,
-    );
-    row(kernel, true, l, q, at, w);
+    };
+    lifting::first_step(kernel, true, l, parts, 0, 1);
+    row_back(kernel, l, q, at, w);
     if 0 < highs {
-        row(kernel, true, l, q, at + stride, w);
+        row_back(kernel, l, q, at + stride, w);
     }
 }
 
@@ -202,19 +228,15 @@ pub fn level_back(
         let to_begin = whole::least(n + 3, lows);
         let at = 2 * n * stride;
         place_pairs(plane, l, width, stride, w, h, placed, to_place);
-        lifting::second_step(
-            kernel,
-            true,
-            l,
-            at,
-            at + stride,
-            2 * stride,
-            to_place - n,
-            whole::least(to_place, highs) - n,
-            w,
-            begun - n,
-            to_begin - n,
-        );
+        let parts = TwoParts {
+            a: at,
+            b: at + stride,
+            step: 2 * stride,
+            lanes: w,
+            lows: to_place - n,
+            highs: whole::least(to_place, highs) - n,
+        };
+        lifting::second_step(kernel, true, l, parts, begun - n, to_begin - n);
         let pair_highs = whole::least(n + 1, highs) - n;
         pair_back(kernel, l, q, at, stride, to_begin - n, pair_highs, w);
         placed = to_place;
@@ -231,8 +253,16 @@ fn row_in(kernel: Kernel, samples: &[u16], l: &mut [i32], from: usize, at: usize
 {
     let highs = w / 2;
     let lows = w - highs;
-    transfer::numbers::part_samples(samples, l, from, at, at + lows, w);
-    lifting::forward(kernel, l, at, at + lows, 1, lows, highs, 1);
+    let parts = TwoParts {
+        a: at,
+        b: at + lows,
+        step: 1,
+        lanes: 1,
+        lows,
+        highs,
+    };
+    transfer::numbers::part(samples, l, from, at, at + lows, w);
+    lifting::forward(kernel, l, parts);
 }
 
 // The rows of pair n of a picture of w by h samples, transformed and stored where they end: row 2n in row n, row 2n + 1, if there is one, in row n behind
@@ -283,14 +313,23 @@ pub fn level_in(kernel: Kernel, samples: &[u16], l: &mut [i32], w: usize, h: usi
     for n in 0..lows {
         let to_place = whole::least(lows, n + 5);
         let to_begin = whole::least(lows, n + 3);
-        // The high rows among them.
-        let stored = whole::least(to_place, highs);
-        let ready = whole::least(to_begin, highs);
         pairs_in(kernel, samples, l, w, h, placed, to_place);
-        lifting::first_step(
-            kernel, false, l, 0, b, w, to_place, stored, w, begun, to_begin,
-        );
-        lifting::second_step(kernel, false, l, 0, b, w, to_begin, ready, w, n, n + 1);
+        // What is stored, and of it what the first step is done on.
+        let stored = TwoParts {
+            a: 0,
+            b,
+            step: w,
+            lanes: w,
+            lows: to_place,
+            highs: whole::least(to_place, highs),
+        };
+        lifting::first_step(kernel, false, l, stored, begun, to_begin);
+        let ready = TwoParts {
+            lows: to_begin,
+            highs: whole::least(to_begin, highs),
+            ..stored
+        };
+        lifting::second_step(kernel, false, l, ready, n, n + 1);
         placed = to_place;
         begun = to_begin;
     }

@@ -43,9 +43,9 @@ fn columns(
     requires binary { Binary buf.old }
     ensures { Lines (mask_line_bytes kernel) 0 start stride n lanes buf.old buf.new }
 {
-    transfer::bytes::take(buf, strip, start, stride, n, lanes);
+    transfer::take(buf, strip, start, stride, n, lanes);
     line_mask::mask(kernel, strip, line_mask::Lines::parted(0, n, lanes));
-    transfer::bytes::put(strip, buf, start, stride, n, lanes);
+    transfer::put(strip, buf, start, stride, n, lanes);
 }
 
 // The column pass over the same area, a strip of columns at a time: as many as the working memory holds.

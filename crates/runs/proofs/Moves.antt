@@ -1,10 +1,9 @@
 -- A loop that moves the numbers of a run by amounts, one after the other, from numbers of the same buffer that it does not write.
 --
 --   Moving add amount s n l l' k == so far the first k of n numbers from place s on are moved
---   NearBy s l p k               == the numbers that step s computes the k-th amount from are within its bound
 --
 -- Assumes nothing.
-use mathlib.Core.Path.{◌≡◌, ◌∙◌, ap₂}
+use mathlib.Core.Path.{◌≡◌, ap, ◌∙◌}
 use mathlib.Core.Bool.{Bool}
 use mathlib.Core.List.{List}
 use Prim.Native.Nat.{ℕ, ◌+◌, ◌<◌, ◌≤◌, ◌^◌}
@@ -16,14 +15,12 @@ use mir.Syntax.{w32}
 use mir.Val.{SFits, to_z, of_z, hbits}
 use mir.Facts.{to_z-of_z}
 use borrow.Author.Rules.{sfits_of}
-use Rattle.whole.specs.Within.{Within}
 use Rattle.line.specs.Cells.{cell}
-use Rattle.line.specs.Formulas.{slope_a, between, smoothing}
 use Rattle.steps.specs.Moved.{moved}
 use Rattle.runs.specs.Cells.{Written}
-use Rattle.runs.specs.Steps.{amount_at, Apart, Room, tap_bound, Near}
-use Rattle.runs.specs.declared.Step.{Step}
-use Rattle.runs.specs.declared.Step.TheVariants.{SPlusP, TT, High, Low}
+use Rattle.runs.specs.Steps.{formula, around, amount_at, Apart, Room, NearBy, Near}
+use Rattle.runs.specs.Step.{Step}
+use Rattle.runs.specs.declared.Around.{Around}
 use Rattle.runs.specs.declared.Taps.{Taps}
 use Rattle.runs.proofs.Writes.{written_none, written_more, written_all, written_kept}
 
@@ -31,13 +28,6 @@ pub record Moving (add : Bool) (amount : ℕ → ℤ) (s n : ℕ) (l l' : List �
   pub room : s + n ≤ length l
   pub count : k ≤ n
   pub so_far : Written (λ i. moved add (cell l (s + i)) (amount i)) s k l l'
-
-pub record NearBy (s : Step) (l : List ℤ) (p : Taps) (k : ℕ) : Type 0 where
-  pub here : Within (tap_bound s) (cell l (p.here + k))
-  pub before2 : Within (tap_bound s) (cell l (p.before2 + k))
-  pub before : Within (tap_bound s) (cell l (p.before + k))
-  pub after : Within (tap_bound s) (cell l (p.after + k))
-  pub after2 : Within (tap_bound s) (cell l (p.after2 + k))
 
 pub moving_none : {add : Bool} {amount : ℕ → ℤ} {s n : ℕ} {l : List ℤ} → s + n ≤ length l → Moving add amount s n l l 0
 moving_none h = record { room = h; count = omega arith; so_far = written_none }
@@ -66,24 +56,16 @@ module _ {add : Bool} {amount : ℕ → ℤ} {p : Taps} {n k : ℕ} {l l' : List
   after2 : cell l' (p.after2 + k) ≡ cell l (p.after2 + k)
   after2 = kept p.after2 room.after2_apart
 
-  pub amount_kept : (s : Step) → amount_at s l' p k ≡ amount_at s l p k
-  amount_kept SPlusP = ap₂ slope_a before after
-  amount_kept TT = rw (before2, before, after, after2)
-  amount_kept High = ap₂ between here after
-  amount_kept Low = ap₂ smoothing before here
+  around_kept : around l' p k ≡ around l p k
+  around_kept = rw (here, before2, before, after, after2)
 
-  pub near_kept : {s : Step} → Near s l p n → NearBy s l' p k
-  near_kept w = record {
-    here = rw here (w.here k h);
-    before2 = rw before2 (w.before2 k h);
-    before = rw before (w.before k h);
-    after = rw after (w.after k h);
-    after2 = rw after2 (w.after2 k h);
-  }
+  -- so what is read of them is what the step takes, and what it computes is the amount
+  module _ (s : Step) {x : Around} (read : x ≡ around l' p k) where
+    pub near_read : Near s l p n → NearBy s x
+    near_read w = rw (read, around_kept) (w.each k h)
 
--- a bound on a number holds of what is read back from its bits
-pub near_read : {b : ℕ} {z : ℤ} → mag z < 2 ^ hbits w32 → Within b z → Within b (to_z w32 (of_z w32 z))
-near_read f w = rw (to_z-of_z {w = w32} (sfits_of f)) w
+    pub amount_read : formula s x ≡ amount_at s l p k
+    amount_read = ap (formula s) (read ∙ around_kept)
 
 -- a turn moves the next number by an amount z, each of the two read back from its bits
 module _ {add : Bool} {amount : ℕ → ℤ} {s n k : ℕ} {l l' : List ℤ} {z : ℤ} (m : Moving add amount s n l l' k) (h : k < n)

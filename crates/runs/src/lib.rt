@@ -1,23 +1,26 @@
-// Loops over runs of numbers of one buffer, one for each formula: nothing is decided for each number.
+// Loops over runs of numbers of one buffer. A loop is compiled for each step: nothing is decided for each number.
 #![tactic(auto)]
 
-ghost use Rattle.std.specs.Prelude.{ℕ, ◌+◌, ◌^◌, ◌≤◌, ◌<◌, length};
+ghost use Rattle.std.specs.Prelude.{◌≡◌, refl, Bool, true, false, ℕ, ◌+◌, ◌^◌, ◌≤◌, ◌<◌, length};
 ghost use Rattle.std.specs.Int.{w32};
 ghost use Rattle.std.proofs.Common.{SFits};
 ghost use Rattle.whole.specs.Within.{Within};
 ghost use Rattle.line.specs.Cells.{cell};
 ghost use Rattle.line.specs.Formulas.{mean, difference, first_of, second_of};
 ghost use Rattle.runs.specs.Cells.{Written, Pairs};
-ghost use Rattle.runs.specs.Steps.{moved_at, Apart, Room, Near, Stays};
-ghost use Rattle.runs.specs.declared.Step.TheVariants as step;
+ghost use Rattle.runs.specs.Pair.{pair_first, pair_second, PairFit};
+ghost use Rattle.runs.specs.Step as step;
+ghost use Rattle.runs.specs.Step.{Step};
+ghost use Rattle.runs.specs.Steps.{look_back, look_ahead, formula, moved_at, Apart, Room, NearBy, Near, Stays};
 
-// A lifting step: that of kernel 1, that of kernel 2, and the two of kernel 3, for its highs and for its lows.
+// The numbers that one number is moved from: that of the same place in its part, two before, one before, one after and two after.
 #[derive(Clone, Copy)]
-pub enum Step {
-    SPlusP,
-    TT,
-    High,
-    Low,
+pub struct Around {
+    pub here: i32,
+    pub before2: i32,
+    pub before: i32,
+    pub after: i32,
+    pub after2: i32,
 }
 
 // Where a run of numbers begins, and where the numbers that each of them is moved from begin.
@@ -31,109 +34,186 @@ pub struct Taps {
     pub after2: usize,
 }
 
-// Each pair, n numbers from a on and n from b on, becomes its mean and its difference.
-pub fn split_pairs(l: &mut [i32], a: usize, b: usize, n: usize)
-    requires n_in_bounds { (a + n ≤ length l.old) × (b + n ≤ length l.old) }
-    requires apart { Apart a b n }
-    requires by_index { (k : ℕ) → k < n → Within (2 ^ 29) (cell l.old (a + k)) × Within (2 ^ 29) (cell l.old (b + k)) }
-    ensures { Pairs (λ k. mean (cell l.old (a + k)) (cell l.old (b + k))) (λ k. difference (cell l.old (a + k)) (cell l.old (b + k))) a b n l.old l.new }
-{
-    for k in 0..n {
-        let x = l[a + k];
-        let y = l[b + k];
-        l[a + k] = steps::mean(x, y);
-        l[b + k] = steps::difference(x, y);
+// A lifting step: how many rows it looks back and ahead, and what it moves a number by.
+pub trait Lift {
+    ghost step: { Step };
+
+    const BACK: usize;
+
+    const AHEAD: usize;
+
+    ghost BACK: { ℕ };
+
+    ghost AHEAD: { ℕ };
+
+    fn amount(x: Around) -> i32
+        requires { NearBy step x }
+        ensures { result ≡ formula step x };
+
+    ghost back_is: { BACK ≡ look_back step };
+
+    ghost ahead_is: { AHEAD ≡ look_ahead step };
+}
+
+// The step of kernel 1.
+pub struct SPlusP;
+
+impl Lift for SPlusP {
+    const BACK: usize = 1;
+
+    const AHEAD: usize = 1;
+
+    ghost step = { step.SPlusP };
+
+    ghost BACK = { 1 };
+
+    ghost AHEAD = { 1 };
+
+    ghost back_is = { refl };
+
+    ghost ahead_is = { refl };
+
+    fn amount(x: Around) -> i32 {
+        steps::slope_a(x.before, x.after)
     }
 }
 
-// Each mean, n from a on, and difference, n from b on, becomes the pair again.
-pub fn join_pairs(l: &mut [i32], a: usize, b: usize, n: usize)
+// The step of kernel 2.
+pub struct TT;
+
+impl Lift for TT {
+    const BACK: usize = 2;
+
+    const AHEAD: usize = 2;
+
+    ghost step = { step.TT };
+
+    ghost BACK = { 2 };
+
+    ghost AHEAD = { 2 };
+
+    ghost back_is = { refl };
+
+    ghost ahead_is = { refl };
+
+    fn amount(x: Around) -> i32 {
+        steps::slope_tt(x.before2, x.before, x.after, x.after2)
+    }
+}
+
+// Kernel 3's step on its highs.
+pub struct High;
+
+impl Lift for High {
+    const BACK: usize = 0;
+
+    const AHEAD: usize = 1;
+
+    ghost step = { step.High };
+
+    ghost BACK = { 0 };
+
+    ghost AHEAD = { 1 };
+
+    ghost back_is = { refl };
+
+    ghost ahead_is = { refl };
+
+    fn amount(x: Around) -> i32 {
+        steps::between(x.here, x.after)
+    }
+}
+
+// Kernel 3's step on its lows.
+pub struct Low;
+
+impl Lift for Low {
+    const BACK: usize = 1;
+
+    const AHEAD: usize = 0;
+
+    ghost step = { step.Low };
+
+    ghost BACK = { 1 };
+
+    ghost AHEAD = { 0 };
+
+    ghost back_is = { refl };
+
+    ghost ahead_is = { refl };
+
+    fn amount(x: Around) -> i32 {
+        steps::smoothing(x.before, x.here)
+    }
+}
+
+// What becomes of the two numbers of a pair.
+pub trait Pair {
+    // Whether it is the pair that comes of a mean and a difference.
+    ghost join: { Bool };
+
+    fn both(x: i32, y: i32) -> (i32, i32)
+        requires { PairFit join x y }
+        ensures first { result.0 ≡ pair_first join x y }
+        ensures second { result.1 ≡ pair_second join x y };
+}
+
+// A pair becomes its mean and its difference.
+pub struct Split;
+
+impl Pair for Split {
+    ghost join = { false };
+
+    fn both(x: i32, y: i32) -> (i32, i32) {
+        (steps::mean(x, y), steps::difference(x, y))
+    }
+}
+
+// A mean and a difference become the pair again.
+pub struct Join;
+
+impl Pair for Join {
+    ghost join = { true };
+
+    fn both(x: i32, y: i32) -> (i32, i32) {
+        let second = steps::second_of(x, y);
+        (second + y, second)
+    }
+}
+
+// Each pair, of n numbers from a on and n from b on, becomes what P makes of it.
+pub fn run_pairs<P: Pair>(l: &mut [i32], a: usize, b: usize, n: usize)
     requires n_in_bounds { (a + n ≤ length l.old) × (b + n ≤ length l.old) }
     requires apart { Apart a b n }
-    requires by_index { (k : ℕ) → k < n → SFits w32 (first_of (cell l.old (a + k)) (cell l.old (b + k))) × SFits w32 (second_of (cell l.old (a + k)) (cell l.old (b + k))) }
-    ensures { Pairs (λ k. first_of (cell l.old (a + k)) (cell l.old (b + k))) (λ k. second_of (cell l.old (a + k)) (cell l.old (b + k))) a b n l.old l.new }
+    requires by_index { (k : ℕ) → k < n → PairFit P.join (cell l.old (a + k)) (cell l.old (b + k)) }
+    ensures { Pairs (λ k. pair_first P.join (cell l.old (a + k)) (cell l.old (b + k))) (λ k. pair_second P.join (cell l.old (a + k)) (cell l.old (b + k))) a b n l.old l.new }
 {
+    // By index: both runs are in one buffer, and which of them comes first, to part it there, is not told.
     for k in 0..n {
-        let d = l[b + k];
-        let y = steps::second_of(l[a + k], d);
-        l[a + k] = y + d;
+        let (x, y) = P::both(l[a + k], l[b + k]);
+        l[a + k] = x;
         l[b + k] = y;
     }
 }
 
-fn run_a(l: &mut [i32], p: Taps, n: usize, add: bool)
+// A lifting step on a run of n numbers, from the numbers around them: what it computes is added or taken off. That is a flag: a type for each way would
+// come to two calls wherever it is chosen, and the compiler makes two loops of this one.
+pub fn run<S: Lift>(l: &mut [i32], p: Taps, n: usize, add: bool)
     requires room { Room p n l.old }
-    requires near { Near step.SPlusP l.old p n }
-    requires stays { Stays step.SPlusP add l.old p n }
-    ensures { Written (moved_at step.SPlusP add l.old p) p.at n l.old l.new }
+    requires near { Near S.step l.old p n }
+    requires stays { Stays S.step add l.old p n }
+    ensures { Written (moved_at S.step add l.old p) p.at n l.old l.new }
 {
-    let at = p.at;
-    let b = p.before;
-    let a = p.after;
+    // By index: the numbers around are in the buffer that is written, which an iterator over the run would hold.
     for k in 0..n {
-        let amount = steps::slope_a(l[b + k], l[a + k]);
-        l[at + k] = steps::shifted(l[at + k], amount, add);
-    }
-}
-
-fn run_tt(l: &mut [i32], p: Taps, n: usize, add: bool)
-    requires room { Room p n l.old }
-    requires near { Near step.TT l.old p n }
-    requires stays { Stays step.TT add l.old p n }
-    ensures { Written (moved_at step.TT add l.old p) p.at n l.old l.new }
-{
-    let at = p.at;
-    let b2 = p.before2;
-    let b = p.before;
-    let a = p.after;
-    let a2 = p.after2;
-    for k in 0..n {
-        let amount = steps::slope_tt(l[b2 + k], l[b + k], l[a + k], l[a2 + k]);
-        l[at + k] = steps::shifted(l[at + k], amount, add);
-    }
-}
-
-fn run_high(l: &mut [i32], p: Taps, n: usize, add: bool)
-    requires room { Room p n l.old }
-    requires near { Near step.High l.old p n }
-    requires stays { Stays step.High add l.old p n }
-    ensures { Written (moved_at step.High add l.old p) p.at n l.old l.new }
-{
-    let at = p.at;
-    let h = p.here;
-    let a = p.after;
-    for k in 0..n {
-        let amount = steps::between(l[h + k], l[a + k]);
-        l[at + k] = steps::shifted(l[at + k], amount, add);
-    }
-}
-
-fn run_low(l: &mut [i32], p: Taps, n: usize, add: bool)
-    requires room { Room p n l.old }
-    requires near { Near step.Low l.old p n }
-    requires stays { Stays step.Low add l.old p n }
-    ensures { Written (moved_at step.Low add l.old p) p.at n l.old l.new }
-{
-    let at = p.at;
-    let h = p.here;
-    let b = p.before;
-    for k in 0..n {
-        let amount = steps::smoothing(l[b + k], l[h + k]);
-        l[at + k] = steps::shifted(l[at + k], amount, add);
-    }
-}
-
-// A lifting step on a run of n numbers, from the numbers around them.
-pub fn run(s: Step, l: &mut [i32], p: Taps, n: usize, add: bool)
-    requires room { Room p n l.old }
-    requires near { Near s l.old p n }
-    requires stays { Stays s add l.old p n }
-    ensures { Written (moved_at s add l.old p) p.at n l.old l.new }
-{
-    match s {
-        Step::SPlusP => run_a(l, p, n, add),
-        Step::TT => run_tt(l, p, n, add),
-        Step::High => run_high(l, p, n, add),
-        Step::Low => run_low(l, p, n, add),
+        let x = Around {
+            here: l[p.here + k],
+            before2: l[p.before2 + k],
+            before: l[p.before + k],
+            after: l[p.after + k],
+            after2: l[p.after2 + k],
+        };
+        let amount = S::amount(x);
+        l[p.at + k] = steps::shifted(l[p.at + k], amount, add);
     }
 }

@@ -64,7 +64,7 @@ pub fn smoothing(before: i32, here: i32) -> i32
     whole::floor4(before + here + 2)
 }
 
-// An amount added to a number, or taken from it.
+// An amount added to a number, or taken from it: a flag, which the loops that move numbers are given as a value.
 pub fn shifted(t: i32, amount: i32, add: bool) -> i32
     requires { SFits w32 (moved add t amount) }
     ensures { result ≡ moved add t amount }

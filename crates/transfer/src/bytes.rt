@@ -1,21 +1,11 @@
-// Bytes that are copied: runs, rows with their evens in front and their odds behind, pictures of such rows, and strips of columns.
-ghost use Rattle.std.specs.Prelude.{◌≡◌, ◌+◌, ◌*◌, ◌/◌, ◌%◌, ◌≤◌, length, get_or};
+// Bytes that are copied: rows with their evens in front and their odds behind, and pictures of such rows.
+ghost use Rattle.std.specs.Prelude.{◌≡◌, List, ℕ, ◌+◌, ◌*◌, ◌/◌, ◌%◌, ◌^◌, ◌<◌, ◌≤◌, length, get_or};
 ghost use Rattle.line.specs.Cells.{low_side};
 ghost use Rattle.grid.specs.Picture.{picture};
-ghost use Rattle.grid.specs.Buffer.{InBuffer, Put};
 ghost use Rattle.grid.specs.Placed.{placed};
-ghost use Rattle.transfer.specs.Copied.{Room, Copied};
-ghost use Rattle.transfer.specs.Parting.{source_at, Written, Paired, PartedCopy, PartedStrip};
+ghost use Rattle.transfer.specs.Parting.{Written, Paired, PartedCopy};
 
-// Copies n bytes of src, from `from` on, to dst, from `at` on.
-pub fn copy(src: &[u8], dst: &mut [u8], from: usize, at: usize, n: usize)
-    requires { Room src.now from at n dst.old }
-    ensures { Copied 0 src.now from at n dst.old dst.new }
-{
-    for k in 0..n {
-        dst[at + k] = src[from + k];
-    }
-}
+use crate::source;
 
 // Takes w bytes, from `from` on, as numbers of two bytes: a pair is then one number to the machine, and bytes two apart are not. The byte that is left
 // over, where w is odd, is the first of a pair without a second.
@@ -23,64 +13,45 @@ fn pair_up(src: &[u8], line: &mut [u16], from: usize, w: usize)
     requires { (from + w ≤ length src.now) × (low_side w ≤ length line.old) }
     ensures { Paired from (low_side w) (w / 2) src.now line.new }
 {
-    let n = w / 2;
-    for k in 0..n {
-        line[k] = src[from + 2 * k] as u16 + 256 * (src[from + 2 * k + 1] as u16);
+    let (pairs, rest) = src[from..from + w].as_chunks::<2>();
+    // Written by index: std says nothing of what a slice holds after a `zip` of its `iter_mut`.
+    for (k, pair) in pairs.iter().enumerate() {
+        line[k] = u16::from_le_bytes(*pair);
     }
     if w % 2 == 1 {
-        line[n] = src[from + 2 * n] as u16;
+        line[w / 2] = u16::from(rest[0]);
     }
 }
 
-// The first bytes of n pairs.
-fn firsts(line: &[u16], dst: &mut [u8], at: usize, n: usize)
-    requires { (n ≤ length line.now) × (at + n ≤ length dst.old) }
-    ensures { Written (λ k. get_or line.now k 0 % 256) at n dst.old dst.new }
+// Writes one byte of each of n pairs: with BYTE 0 the first, with 1 the second.
+fn bytes_of<const BYTE: usize>(line: &[u16], dst: &mut [u8], at: usize, n: usize)
+    requires byte { BYTE < 2 }
+    requires in_bounds { (n ≤ length line.now) × (at + n ≤ length dst.old) }
+    ensures { Written (λ k. get_or line.now k 0 / 256 ^ BYTE % 256) at n dst.old dst.new }
 {
-    for k in 0..n {
-        dst[at + k] = (line[k] % 256) as u8;
+    // Written by index, as in `pair_up`.
+    for (k, pair) in line[..n].iter().enumerate() {
+        dst[at + k] = pair.to_le_bytes()[BYTE];
     }
 }
 
-// The second bytes.
-fn seconds(line: &[u16], dst: &mut [u8], at: usize, n: usize)
-    requires { (n ≤ length line.now) × (at + n ≤ length dst.old) }
-    ensures { Written (λ k. get_or line.now k 0 / 256) at n dst.old dst.new }
-{
-    for k in 0..n {
-        dst[at + k] = (line[k] / 256) as u8;
-    }
-}
-
-// Copies a row of w bytes, its evens to the front and its odds behind them.
-fn part(src: &[u8], dst: &mut [u8], line: &mut [u16], from: usize, at: usize, w: usize)
-    requires w_in_bounds { (from + w ≤ length src.now) × (at + w ≤ length dst.old) }
-    requires w_in_bounds_2 { low_side w ≤ length line.old }
-    ensures { PartedCopy 0 src.now from at w dst.old dst.new }
+// Writes w bytes, which the numbers of two bytes pair: the firsts, and the seconds behind them.
+fn part(line: &[u16], dst: &mut [u8], at: usize, w: usize)
+    requires { (low_side w ≤ length line.now) × (at + w ≤ length dst.old) }
+    ensures { (x : List ℕ) (from : ℕ) → Paired from (low_side w) (w / 2) x line.now → PartedCopy 0 x from at w dst.old dst.new }
 {
     let low = w - w / 2;
-    pair_up(src, line, from, w);
-    firsts(line, dst, at, low);
-    seconds(line, dst, at + low, w / 2);
+    bytes_of::<0>(line, dst, at, low);
+    bytes_of::<1>(line, dst, at + low, w / 2);
 }
 
-// The same in place.
+// Parts a row of w bytes in place, its evens to the front and its odds behind them.
 pub fn part_row(buf: &mut [u8], line: &mut [u16], at: usize, w: usize)
     requires { (at + w ≤ length buf.old) × (low_side w ≤ length line.old) }
     ensures { PartedCopy 0 buf.old at at w buf.old buf.new }
 {
-    let low = w - w / 2;
     pair_up(buf, line, at, w);
-    firsts(line, buf, at, low);
-    seconds(line, buf, at + low, w / 2);
-}
-
-// Which row comes to place n, where `low` rows, the evens, stand in front.
-fn source(n: usize, low: usize) -> usize
-    requires { n ≤ 4096 }
-    ensures { result ≡ source_at low n }
-{
-    if n < low { 2 * n } else { 2 * (n - low) + 1 }
+    part(line, buf, at, w);
 }
 
 // Copies a picture of w by h bytes, each byte to the place where its coefficient of the first level ends.
@@ -91,31 +62,9 @@ pub fn place(src: &[u8], dst: &mut [u8], w: usize, h: usize)
 {
     let mut line = [0u16; 2048];
     let low = h - h / 2;
+    // Rows by their number: it tells which row comes there.
     for n in 0..h {
-        part(src, dst, &mut line, source(n, low) * w, n * w, w);
-    }
-}
-
-// The strip of `lanes` lines of w bytes of buf, the first byte of line j at start + j, the others of it step apart: the evens of all lines in
-// front, the odds behind.
-pub fn take(buf: &[u8], strip: &mut [u8], start: usize, step: usize, w: usize, lanes: usize)
-    requires in_buffer { InBuffer buf.now start step w lanes }
-    requires w_bound { (w ≤ 4096) × (w * lanes ≤ length strip.old) }
-    ensures { PartedStrip 0 buf.now start step w lanes strip.old strip.new }
-{
-    let low = w - w / 2;
-    for n in 0..w {
-        copy(buf, strip, start + source(n, low) * step, n * lanes, lanes);
-    }
-}
-
-// A strip of `lanes` lines of m bytes into buf, as it is.
-pub fn put(strip: &[u8], buf: &mut [u8], start: usize, step: usize, m: usize, lanes: usize)
-    requires in_buffer { InBuffer buf.old start step m lanes }
-    requires lanes_in_bounds { m * lanes ≤ length strip.now }
-    ensures { Put 0 strip.now start step m lanes buf.old buf.new }
-{
-    for n in 0..m {
-        copy(strip, buf, n * lanes, start + n * step, lanes);
+        pair_up(src, &mut line, source(n, low) * w, w);
+        part(&line, dst, n * w, w);
     }
 }

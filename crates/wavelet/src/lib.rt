@@ -16,7 +16,7 @@ ghost use Rattle.wavelet.specs.Walks.{area_bound, Levels, Undone, Sized};
 use kernel::Kernel;
 use refusal::{Refusal, refuse};
 
-// A level and those below it: the row pass, and then `cols`.
+// A level and those below it: the row pass, and then `cols`. Stride, width and height are three numbers for speed, as in `passes`.
 #[cycle(cols_rows)]
 fn rows(
     kernel: Kernel,
@@ -136,7 +136,7 @@ fn undo_levels(
         );
         passes::level_back(kernel, plane, l, q, width, stride, w, h);
     } else {
-        transfer::numbers::copy_rows(plane, l, 0, width, 0, stride, h, w);
+        transfer::copy_rows(plane, l, 0, width, 0, stride, h, w);
     }
 }
 

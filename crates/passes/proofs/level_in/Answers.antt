@@ -13,7 +13,7 @@ first_step-requires c = let inside : c.loop-n.n < low_side c.args.h = omega arit
     let begun : c.least-to_begin.result ≡ begun_to (low_side c.args.h) c.loop-n.n = omega (arith, c.least-to_begin.ensures) in
     let stored : c.least-to_place.result ≡ placed_to (low_side c.args.h) c.loop-n.n = omega (arith, c.least-to_place.ensures) in
     let ahead : Ahead (low_side c.args.h) (c.loop-n.n + 1) c.least-to_begin.result c.least-to_place.result = ahead_more inside c.loop-n.invariant.1 begun stored in
-    let a = c.args in let i = c.loop-n in let p = c.pairs_in.ensures in let z = c.least-stored.ensures in let q = first_asks a.kernel a.samples.now a.w a.h a.l.now c.requires.by_index_2 inside i.invariant.1 begun stored i.invariant.2 p z in rw (low_left a.h) record {
+    let a = c.args in let i = c.loop-n in let p = c.pairs_in.ensures in let z = c.least.ensures in let q = first_asks a.kernel a.samples.now a.w a.h a.l.now c.requires.by_index_2 inside i.invariant.1 begun stored i.invariant.2 p z in rw (low_left a.h) record {
       d_le_e = (more_begun inside i.invariant.1 begun stored, ahead.order, omega (arith, ahead.near, ahead.order));
       parts = parts_as (parts_in _ _ c.requires.area ahead.top (omega (arith, z))) (p.size ∙ i.invariant.2.swept.size);
       bounded = q.0;
@@ -25,10 +25,10 @@ second_step-requires c = let inside : c.loop-n.n < low_side c.args.h = omega ari
     let begun : c.least-to_begin.result ≡ begun_to (low_side c.args.h) c.loop-n.n = omega (arith, c.least-to_begin.ensures) in
     let stored : c.least-to_place.result ≡ placed_to (low_side c.args.h) c.loop-n.n = omega (arith, c.least-to_place.ensures) in
     let ahead : Ahead (low_side c.args.h) (c.loop-n.n + 1) c.least-to_begin.result c.least-to_place.result = ahead_more inside c.loop-n.invariant.1 begun stored in
-    let a = c.args in let i = c.loop-n in let p = c.pairs_in.ensures in let f = rw (low_left a.h) at c.first_step.ensures in let z = c.least-ready.ensures in let top : c.least-to_begin.result ≤ low_side a.h = omega (arith, ahead.order, ahead.top) in rw (low_left a.h) record {
+    let a = c.args in let i = c.loop-n in let p = c.pairs_in.ensures in let f = rw (low_left a.h) at c.first_step.ensures in let z = c.least-in-loop-n.ensures in let top : c.least-to_begin.result ≤ low_side a.h = omega (arith, ahead.order, ahead.top) in rw (low_left a.h) record {
       d_le_e = (omega arith, ahead.near, high_near a.h inside ahead.near z, omega (arith, ahead.near));
       parts = parts_as (parts_in _ _ c.requires.area top (omega (arith, z))) (f.size ∙ p.size ∙ i.invariant.2.swept.size);
-      second_takes = second_asks a.kernel a.samples.now a.w a.h a.l.now c.requires.by_index_2 inside i.invariant.1 begun stored i.invariant.2 p c.least-stored.ensures f z;
+      second_takes = second_asks a.kernel a.samples.now a.w a.h a.l.now c.requires.by_index_2 inside i.invariant.1 begun stored i.invariant.2 p c.least.ensures f z;
     }
 
 pub loop-n-preserved : goal.loop-n-preserved
@@ -36,7 +36,7 @@ loop-n-preserved c = let inside : c.loop-n.n < low_side c.args.h = omega arith i
     let begun : c.least-to_begin.result ≡ begun_to (low_side c.args.h) c.loop-n.n = omega (arith, c.least-to_begin.ensures) in
     let stored : c.least-to_place.result ≡ placed_to (low_side c.args.h) c.loop-n.n = omega (arith, c.least-to_place.ensures) in
     let ahead : Ahead (low_side c.args.h) (c.loop-n.n + 1) c.least-to_begin.result c.least-to_place.result = ahead_more inside c.loop-n.invariant.1 begun stored in
-    let a = c.args in let i = c.loop-n in (omega arith, ahead, after_second a.kernel a.samples.now a.w a.h a.l.now c.requires.by_index_2 inside i.invariant.1 begun stored i.invariant.2 c.pairs_in.ensures c.least-stored.ensures (rw (low_left a.h) at c.first_step.ensures) c.least-ready.ensures (rw (low_left a.h) at c.second_step.ensures))
+    let a = c.args in let i = c.loop-n in (omega arith, ahead, after_second a.kernel a.samples.now a.w a.h a.l.now c.requires.by_index_2 inside i.invariant.1 begun stored i.invariant.2 c.pairs_in.ensures c.least.ensures (rw (low_left a.h) at c.first_step.ensures) c.least-in-loop-n.ensures (rw (low_left a.h) at c.second_step.ensures))
 
 pub returns : goal.returns
 returns c = let a = c.args in let i = c.loop-n in let e : i.n ≡ low_side a.h = omega (arith, i.invariant.0) in let d : i.begun ≡ low_side a.h = omega (arith, i.invariant.1.near, i.invariant.1.order, i.invariant.1.top) in level_all a.kernel a.samples.now a.w a.h c.requires.l_len.0 c.requires.l_len.1 (rw (e, d) at i.invariant.2)

@@ -11,7 +11,7 @@ use Rattle.passes.proofs.row_in.Goals as goal
 
 pub forward-requires : goal.forward-requires
 forward-requires c = let same : c.args.w - c.args.w / 2 ≡ low_side c.args.w = low_left c.args.w in
-    let a = c.args in let x : Line ℤ = λ i. pos (get_or a.samples.now (a.from + i) 0) in let p = samples_parted a.samples.now a.from a.at a.w (rw same at c.part_samples.ensures) in
+    let a = c.args in let x : Line ℤ = λ i. pos (get_or a.samples.now (a.from + i) 0) in let p = samples_parted a.samples.now a.from a.at a.w (rw same at (c.part.ensures pos (λ x z e. e) 0)) in
     rw same record {
       lows_nonzero = (omega (arith, c.requires.w_nonzero), omega arith, omega arith);
       parts = row_parts a.at a.w _ c.requires.w_nonzero.1 (omega (arith, c.requires.w_in_bounds, p.size));
@@ -21,4 +21,4 @@ forward-requires c = let same : c.args.w - c.args.w / 2 ≡ low_side c.args.w = 
 
 pub returns : goal.returns
 returns c = let same : c.args.w - c.args.w / 2 ≡ low_side c.args.w = low_left c.args.w in
-    let a = c.args in row_stored (λ i. pos (get_or a.samples.now (a.from + i) 0)) a.at a.w (samples_parted a.samples.now a.from a.at a.w (rw same at c.part_samples.ensures)) a.kernel (rw same at c.forward.ensures)
+    let a = c.args in row_stored (λ i. pos (get_or a.samples.now (a.from + i) 0)) a.at a.w (samples_parted a.samples.now a.from a.at a.w (rw same at (c.part.ensures pos (λ x z e. e) 0))) a.kernel (rw same at c.forward.ensures)

@@ -1,5 +1,6 @@
 -- `wavelet::undo_levels` undoes the levels, from the deepest. Assumes nothing.
 use Rattle.std.proofs.Common.{arith}
+use lib.IntN.{pos}
 use Rattle.line.specs.Cells.{low_side}
 use Rattle.line.proofs.Cells.{low_left}
 use Rattle.plane.proofs.Bounds.{below_part}
@@ -30,4 +31,4 @@ returns-then-levels-gt0 t c =
 
 pub returns-else-levels-gt0 : goal.returns-else-levels-gt0
 returns-else-levels-gt0 t c =
-    let a = c.args in none_undone a.kernel a.plane.now a.l.now c.requires.levels c.requires.levels_2 (omega arith) c.copy_rows.ensures
+    let a = c.args in none_undone a.kernel a.plane.now a.l.now c.requires.levels c.requires.levels_2 (omega arith) (c.copy_rows.ensures (pos 0))

@@ -1,7 +1,5 @@
 -- `transfer::bytes::part_row` parts a row of bytes in place. Assumes nothing.
-use native.Mathlib.Omega.{arith}
-use Rattle.transfer.proofs.Parting.{part_copied}
 use Rattle.transfer.proofs.bytes.part_row.Goals as goal
 
 pub returns : goal.returns
-returns c = part_copied (omega arith) c.pair_up.ensures c.firsts.ensures c.seconds.ensures
+returns c = let a = c.args in c.part.ensures a.buf.now a.at c.pair_up.ensures
