@@ -8,12 +8,13 @@ ghost use Rattle.bitplane.specs.Body.{class};
 ghost use Rattle.bitplane.specs.Reader.{received, used, grown};
 ghost use Rattle.coefficient.specs.Growth.{reading_from, Pair, Takes, Small, Grown};
 
+use cursor::BitCursor;
+
 // The bit at place p, and 0 past the end.
 pub fn bit(body: &[u8], p: usize) -> usize
     ensures { result ≡ bit_at body.now p }
 {
-    let c = cursor::new(body, p);
-    cursor::bit(c)
+    BitCursor::new(body, p).bit()
 }
 
 // The bit behind place p, and 0 past the end.
@@ -21,8 +22,7 @@ fn bit_behind(body: &[u8], p: usize) -> usize
     requires { p + 1 < 2 ^ 64 }
     ensures { result ≡ bit_at body.now (p + 1) }
 {
-    let c = cursor::new(body, p);
-    cursor::bit(cursor::next(c))
+    BitCursor::new(body, p).next().bit()
 }
 
 // What a bit of plane t counts.
@@ -100,11 +100,10 @@ pub fn take(
     let x = cursor::window(body, p / 8);
     let begin = (p % 8) as u64;
     let mut o = begin;
-    for k in 0..16 {
-        let v = plane[i + k];
+    for (k, pair) in pairs.iter_mut().enumerate() {
         let member = members::member(mask, c, i + k) as u64;
-        pairs[k] = (cursor::digits(x, o, 2) * member) as u32;
-        o = o + width(v, cursor::digits(x, o, 1), member);
+        *pair = (cursor::digits(x, o, 2) * member) as u32;
+        o += width(plane[i + k], cursor::digits(x, o, 1), member);
     }
     p + (o - begin) as usize
 }
@@ -114,9 +113,7 @@ pub fn grow_all(plane: &mut [i32], pairs: &[u32], i: usize, t: u64, step: i32)
     requires { (i + 16 ≤ length plane.old) × (length pairs.now ≡ 16) × (step ≡ pos (2 ^ t)) × Small t plane.old i pairs.now }
     ensures { Grown t i 16 pairs.now plane.old plane.new }
 {
-    for k in 0..16 {
-        let v = plane[i + k];
-        let w = grow(v, pairs[k], t, step);
-        plane[i + k] = w;
+    for (k, v) in plane[i..i + 16].iter_mut().enumerate() {
+        *v = grow(*v, pairs[k], t, step);
     }
 }

@@ -1,0 +1,25 @@
+-- Cells of a part of a list. Assumes nothing.
+use mathlib.Core.Path.{◌≡◌, sym, ap, ◌∙◌}
+use mathlib.Core.Bool.{true, false}
+use mathlib.Core.List.{List}
+use Prim.Native.Nat.{ℕ, ◌+◌, ◌-◌, ◌<◌}
+use native.Mathlib.Omega.{arith}
+use lib.Dec.{eqb}
+use lib.ListN.{length, get_or, drop, take}
+use lib.Seq.{get_or-take, get_or-drop}
+use Rattle.bitplane.specs.Body.{class}
+use Rattle.bitplane.proofs.Classes.{class_test, class_on, class_off}
+
+pub part_cell : {A : Type 0} (l : List A) (from to k : ℕ) (d : A) → from + k < to → get_or (take (to - from) (drop from l)) k d ≡ get_or l (from + k) d
+part_cell l from to k d h = get_or-take (to - from) (drop from l) k d (omega arith) ∙ get_or-drop from l k d
+
+-- ---- the classes of a part of a mask
+module _ (mask : List ℕ) (c from to k : ℕ) (inside : from + k < to) (within : from + k < length mask) where
+  pub part_test : eqb (get_or (take (to - from) (drop from mask)) k 0) c ≡ class mask c (from + k)
+  part_test = ap (λ m. eqb m c) (part_cell mask from to k 0 inside) ∙ class_test mask c (from + k) within
+
+  pub part_on : get_or (take (to - from) (drop from mask)) k 0 ≡ c → class mask c (from + k) ≡ true
+  part_on e = class_on mask c (from + k) within (sym (part_cell mask from to k 0 inside) ∙ e)
+
+  pub part_off : (get_or (take (to - from) (drop from mask)) k 0 ≡ c → ⊥) → class mask c (from + k) ≡ false
+  part_off n = class_off mask c (from + k) within (λ e. n (part_cell mask from to k 0 inside ∙ e))
