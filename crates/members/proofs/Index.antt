@@ -8,9 +8,9 @@ use native.Mathlib.Nat.{pow-succ', div-div-eq-div-mul, div-one, two-pow-succ, ze
 use native.Mathlib.Numerals.{add-one}
 use borrow.Author.Tests.{ne_eqb}
 use lib.Dec.{eqb}
-use lib.ListN.{length, get_or, get_or-append, set}
+use lib.ListN.{length, get_or, get_or-append, set, take}
 use lib.Pow.{pow-lt}
-use lib.Seq.{get_or-set_same, get_or-set_other}
+use lib.Seq.{get_or-set_same, get_or-set_other, get_or-take}
 use Rattle.line.specs.Cells.{choose, behind, count}
 use Rattle.line.proofs.Cells.{by_lt, by_bool}
 use Rattle.bitplane.specs.Bits.{bit_of}
@@ -78,6 +78,10 @@ pub words_all : {on : ℕ → Bool} {l : List ℕ} {n k : ℕ} → ((i : ℕ) �
 words_all {on} {l} {n} {k} past h w = record {
   each = λ j. by_lt j k (w.each j) (λ ge. record { each = λ m m< o. absurd (omega (arith, one_zero o (past (4096 * j + m) (omega arith)))) });
 }
+
+-- a word among the first w
+pub front_held : {on : ℕ → Bool} {l : List ℕ} (w k : ℕ) → k < w → Indexed on l → Held on (4096 * k) (get_or (take w l) k 0)
+front_held {l = l} w k h x = rw (get_or-take w l k 0 h) (x.each k)
 
 -- ---- what a pass may leave out
 module _ {on : ℕ → Bool} {i word : ℕ} (held : Held on i word) where
