@@ -34,7 +34,8 @@ pub fn weight(t: u64) -> i32
     w as i32
 }
 
-// How many bits coefficient v takes, of which b is the first, if it is a member of the class (1), and none if not (0).
+// How many bits coefficient v takes, of which b is the first, if it is a member of the class (1), and none if not (0): numbers, so that there is
+// no branch.
 #[tactic(auto, using(std::proofs::lemmas::Int::ints), unfolding(bitplane::specs::Reader::used))]
 pub fn width(v: i32, b: u64, member: u64) -> u64
     requires { (b < 2) × (member < 2) }

@@ -105,7 +105,8 @@ fn place_run(mask: &[u8], c: u8, from: usize, to: usize, list: &mut [i32], n: us
     m
 }
 
-// Puts the places of the coefficients of class c into the list, one behind the other. The result is how many there are.
+// Puts the places of the coefficients of class c into the list, one behind the other. The result is how many there are. By the numbers of the
+// blocks, and no `chunks`: the places are what is listed.
 fn places(mask: &[u8], c: u8, list: &mut [i32]) -> usize
     requires { Listed mask.now c (length mask.now) (length list.old) }
     ensures { Collected (class mask.now c) pos (length mask.now) (cell list.new) result }
@@ -134,10 +135,9 @@ pub fn collect(plane: &[i32], mask: &[u8], c: u8, list: &mut [i32]) -> usize
     n
 }
 
-// Not one walk with `place_run`, which writes the list by the mask: this reads it, and a closure that does either would change what it captures,
-// of which a loop over its calls says nothing.
 // Puts the members of a list, from its cell n on, where the coefficients of class c from `from` to `to` lie. The result is the cell behind
-// the last of them.
+// the last of them. A walk of its own beside `place_run`: one for both would take its step as a trait, with a law of what a step does to list
+// and plane, and be longer than the two.
 fn spread_run(
     list: &[i32],
     mask: &[u8],

@@ -272,7 +272,8 @@ pub fn write_planes(out: &mut [u8], plane: &[i32], mask: &[u8], c: u8, top: u64,
     q
 }
 
-// The same, of few coefficients of a large plane: they are collected once, and the passes go over their list.
+// The same, of few coefficients of a large plane: they are collected once, and the passes go over their list. Not one with the reader's
+// `read_few`, which fills a list and puts it back: the two share the two arrays alone.
 fn write_few(out: &mut [u8], plane: &[i32], mask: &[u8], c: u8, top: u64, p: usize) -> usize
     requires top_bound { (top ≤ 32) × PassReady mask.now plane.now c × (count (length plane.now) (class mask.now c) ≤ 65536) }
     requires room { Room (part mask.now top plane.now c) p out.old }
