@@ -2,12 +2,15 @@
 use mathlib.Core.Path.{◌≡◌, sym, ap, ◌∙◌}
 use mathlib.Core.Bool.{true, false}
 use mathlib.Core.List.{List}
-use Prim.Native.Nat.{ℕ, ◌+◌, ◌-◌, ◌<◌}
+use Prim.Native.Nat.{ℕ, ◌+◌, ◌-◌, ◌<◌, ◌≤◌}
 use native.Mathlib.Omega.{arith}
 use lib.Dec.{eqb}
 use lib.ListN.{length, get_or, drop, take}
 use lib.Seq.{get_or-take, get_or-drop}
 use Rattle.bitplane.specs.Body.{class}
+use lib.IntN.{ℤ}
+use Rattle.members.specs.Collection.{Listed, Collected}
+use Rattle.members.proofs.Collection.{member_fits}
 use Rattle.bitplane.proofs.Classes.{class_test, class_on, class_off}
 
 pub part_cell : {A : Type 0} (l : List A) (from to k : ℕ) (d : A) → from + k < to → get_or (take (to - from) (drop from l)) k d ≡ get_or l (from + k) d
@@ -23,3 +26,8 @@ module _ (mask : List ℕ) (c from to k : ℕ) (inside : from + k < to) (within 
 
   pub part_off : (get_or (take (to - from) (drop from mask)) k 0 ≡ c → ⊥) → class mask c (from + k) ≡ false
   part_off n = class_off mask c (from + k) within (λ e. n (part_cell mask from to k 0 inside ∙ e))
+
+-- ---- a member of the part, where a list has the members before it: it fits into the list
+pub part_fits : {mask : List ℕ} {c n m size : ℕ} {Z D : ℕ → ℤ} (from to k : ℕ) → Listed mask c n size → from + k < to → to ≤ n → get_or (take (to - from) (drop from mask)) k 0 ≡ c → Collected (class mask c) Z (from + k) D m
+    → (m < size) × (m < 16777216)
+part_fits {mask} {c} from to k l h g e x = member_fits l (part_on mask c from to k h (omega (arith, l.over)) e) (omega arith) x

@@ -9,8 +9,8 @@ use lib.ListN.{length-set}
 use Rattle.std.proofs.Common.{FitsSigned, rules}
 use Rattle.line.specs.Cells.{cell}
 use Rattle.bitplane.specs.Body.{class}
-use Rattle.members.proofs.Collection.{collected_skip, member_fits, into_plane, kept_set}
-use Rattle.members.proofs.Parts.{part_on, part_off}
+use Rattle.members.proofs.Collection.{collected_skip, into_plane, kept_set}
+use Rattle.members.proofs.Parts.{part_on, part_off, part_fits}
 use Rattle.members.proofs.spread_run.Goals as goal
 
 pub loop-k-preserved-then-class-c : goal.loop-k-preserved-then-class-c
@@ -19,18 +19,15 @@ loop-k-preserved-then-class-c c = let l = c.loop-k in let r = c.requires.from_le
 
 pub offset_bounds-list-m : goal.offset_bounds-list-m
 offset_bounds-list-m c = let l = c.loop-k in let r = c.requires.from_le_to in
-    let member : class c.args.mask.now c.args.c (c.args.from + l.k) ≡ true = part_on _ _ c.args.from c.args.to l.k (omega arith) (omega (arith, r.2.over)) c.if-class-c.false in
-    omega (arith, member_fits r.2 member (omega arith) l.invariant.1)
+    omega (arith, part_fits c.args.from c.args.to l.k r.2 (omega arith) (omega (arith, r.2.over)) c.if-class-c.false l.invariant.1)
 
 pub bounds-list-m : goal.bounds-list-m
 bounds-list-m c = let l = c.loop-k in let r = c.requires.from_le_to in
-    let member : class c.args.mask.now c.args.c (c.args.from + l.k) ≡ true = part_on _ _ c.args.from c.args.to l.k (omega arith) (omega (arith, r.2.over)) c.if-class-c.false in
-    omega (arith, member_fits r.2 member (omega arith) l.invariant.1)
+    omega (arith, part_fits c.args.from c.args.to l.k r.2 (omega arith) (omega (arith, r.2.over)) c.if-class-c.false l.invariant.1)
 
 pub overflow_add-m : goal.overflow_add-m
 overflow_add-m c = let l = c.loop-k in let r = c.requires.from_le_to in
-    let member : class c.args.mask.now c.args.c (c.args.from + l.k) ≡ true = part_on _ _ c.args.from c.args.to l.k (omega arith) (omega (arith, r.2.over)) c.if-class-c.false in
-    omega (arith, member_fits r.2 member (omega arith) l.invariant.1)
+    omega (arith, part_fits c.args.from c.args.to l.k r.2 (omega arith) (omega (arith, r.2.over)) c.if-class-c.false l.invariant.1)
 
 pub loop-k-preserved : goal.loop-k-preserved
 loop-k-preserved c = let l = c.loop-k in let r = c.requires.from_le_to in
