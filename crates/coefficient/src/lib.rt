@@ -85,7 +85,8 @@ pub fn pair(body: &[u8], p: usize, b: usize, v: i32) -> u32
 }
 
 // What the 16 coefficients from i on take of the bits from place p on: for each member of the class its next two, as a number, and 0 for
-// each other. The result is the place behind what they take. No branch for each of them: their bits cannot be foreseen.
+// each other. The result is the place behind what they take. No branch for each of them: their bits cannot be foreseen. By `enumerate` and no
+// `zip`: under `zip` a proof has no name for what was written by `iter_mut`.
 pub fn take(
     body: &[u8],
     plane: &[i32],
@@ -109,7 +110,7 @@ pub fn take(
     p + (o - begin) as usize
 }
 
-// Each of the 16 coefficients from i on after its two bits of plane t.
+// Each of the 16 coefficients from i on after its two bits of plane t. By `enumerate`, as in `take`.
 pub fn grow_all(plane: &mut [i32], pairs: &[u32], i: usize, t: u64, step: i32)
     requires { (i + 16 ≤ length plane.old) × (length pairs.now ≡ 16) × (step ≡ pos (2 ^ t)) × Small t plane.old i pairs.now }
     ensures { Grown t i 16 pairs.now plane.old plane.new }

@@ -163,7 +163,7 @@ fn spread_run(
     m
 }
 
-// Puts the members of a list where the coefficients of class c lie. The result is how many there are.
+// Puts the members of a list where the coefficients of class c lie, block by block as `places`. The result is how many there are.
 pub fn spread(list: &[i32], mask: &[u8], c: u8, plane: &mut [i32]) -> usize
     requires { Listed mask.now c (length plane.old) (length list.now) }
     ensures collected { Collected (class mask.now c) (cell plane.new) (length plane.old) (cell list.now) result }

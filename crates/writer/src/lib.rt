@@ -123,7 +123,8 @@ fn idle(pass: &Pass, i: usize) -> bool
     high(pass, i) >> pass.t == 0
 }
 
-// What each of the 16 coefficients from i on gives.
+// What each of the 16 coefficients from i on gives. By `enumerate` and no `zip`: under `zip` a proof has no name for what was written by
+// `iter_mut`.
 fn each(pass: &Pass, i: usize, found: &mut [Gathered])
     requires { Sound pass.now × (i + 16 ≤ length pass.now.plane.now) × (length found.old ≡ 16) }
     ensures { Each pass.now i 16 found.new }
