@@ -1,11 +1,13 @@
 -- Cells of a part of a list. Assumes nothing.
-use mathlib.Core.Path.{◌≡◌, sym, ap, ◌∙◌}
+use mathlib.Core.Path.{◌≡◌, refl, sym, ap, ◌∙◌}
+use mathlib.Core.Logic.{◌⊎◌, inl, inr}
 use mathlib.Core.Bool.{true, false}
-use mathlib.Core.List.{List}
+use mathlib.Core.List.{List, ◌∷◌}
 use Prim.Native.Nat.{ℕ, ◌+◌, ◌-◌, ◌<◌, ◌≤◌}
 use native.Mathlib.Omega.{arith}
 use lib.Dec.{eqb}
-use lib.ListN.{length, get_or, drop, take}
+use lib.ListN.{length, get_or, drop, take, length-drop}
+use Rattle.std.proofs.lemmas.List.{drop-drop}
 use lib.Seq.{get_or-take, get_or-drop}
 use Rattle.bitplane.specs.Body.{class}
 use lib.IntN.{ℤ}
@@ -31,3 +33,13 @@ module _ (mask : List ℕ) (c from to k : ℕ) (inside : from + k < to) (within 
 pub part_fits : {mask : List ℕ} {c n m size : ℕ} {Z D : ℕ → ℤ} (from to k : ℕ) → Listed mask c n size → from + k < to → to ≤ n → get_or (take (to - from) (drop from mask)) k 0 ≡ c → Collected (class mask c) Z (from + k) D m
     → (m < size) × (m < 16777216)
 part_fits {mask} {c} from to k l h g e x = member_fits l (part_on mask c from to k h (omega (arith, l.over)) e) (omega arith) x
+
+-- ---- a list that is gone over together with another: what is left of it, and its end
+pub left_first : {A : Type 0} {x : A} {r : List A} (l : List A) (n : ℕ) (d : A) → drop n l ≡ x ∷ r → (n < length l) × (x ≡ get_or l n d) × (r ≡ drop (n + 1) l)
+left_first l n d e =
+    let z : n + 0 ≡ n = omega arith in
+    (omega (arith, length-drop n l, ap length e), sym (ap (λ m. get_or m 0 d) e) ∙ get_or-drop n l 0 d ∙ rw z refl, sym (ap (drop 1) e) ∙ drop-drop 1 n l)
+
+pub both_ended : {S T : Type 0} {P : S → Type 0} {Q : T → Type 0} {n m : ℕ} → ((u : S) × ((n ≡ 0) × P u)) ⊎ ((u : T) × ((m ≡ 0) × Q u)) → n ≡ m → n ≡ 0
+both_ended (inl u) e = u.1.0
+both_ended (inr u) e = e ∙ u.1.0

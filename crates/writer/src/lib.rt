@@ -194,8 +194,8 @@ fn write_rest(out: &mut [u8], pass: &Pass, from: usize, p: usize) -> usize
     ensures { Sends (stretch pass.now from (length pass.now.plane.now - from)) p out.old out.new result }
 {
     let mut q = p;
-    for (k, z) in pass.plane[from..].iter().enumerate() {
-        if pass.mask[from + k] != pass.class {
+    for (z, class) in pass.plane[from..].iter().zip(&pass.mask[from..]) {
+        if *class != pass.class {
             continue;
         }
         q = send(out, q, gives(*z, pass.t, 1));
