@@ -8,12 +8,13 @@ ghost use Rattle.bitplane.specs.Body.{class};
 ghost use Rattle.bitplane.specs.Reader.{received, used, grown};
 ghost use Rattle.coefficient.specs.Growth.{reading_from, Pair, Takes, Small, Grown};
 
+use cursor::BitCursor;
+
 // The bit at place p, and 0 past the end.
 pub fn bit(body: &[u8], p: usize) -> usize
     ensures { result ≡ bit_at body.now p }
 {
-    let c = cursor::new(body, p);
-    cursor::bit(c)
+    BitCursor::new(body, p).bit()
 }
 
 // The bit behind place p, and 0 past the end.
@@ -21,8 +22,7 @@ fn bit_behind(body: &[u8], p: usize) -> usize
     requires { p + 1 < 2 ^ 64 }
     ensures { result ≡ bit_at body.now (p + 1) }
 {
-    let c = cursor::new(body, p);
-    cursor::bit(cursor::next(c))
+    BitCursor::new(body, p).next().bit()
 }
 
 // What a bit of plane t counts.
@@ -34,7 +34,8 @@ pub fn weight(t: u64) -> i32
     w as i32
 }
 
-// How many bits coefficient v takes, of which b is the first, if it is a member of the class (1), and none if not (0).
+// How many bits coefficient v takes, of which b is the first, if it is a member of the class (1), and none if not (0): numbers, so that there is
+// no branch.
 #[tactic(auto, using(std::proofs::lemmas::Int::ints), unfolding(bitplane::specs::Reader::used))]
 pub fn width(v: i32, b: u64, member: u64) -> u64
     requires { (b < 2) × (member < 2) }
@@ -84,7 +85,8 @@ pub fn pair(body: &[u8], p: usize, b: usize, v: i32) -> u32
 }
 
 // What the 16 coefficients from i on take of the bits from place p on: for each member of the class its next two, as a number, and 0 for
-// each other. The result is the place behind what they take. No branch for each of them: their bits cannot be foreseen.
+// each other. The result is the place behind what they take. No branch for each of them: their bits cannot be foreseen. By `enumerate` and no
+// `zip`: under `zip` a proof has no name for what was written by `iter_mut`.
 pub fn take(
     body: &[u8],
     plane: &[i32],
@@ -100,23 +102,20 @@ pub fn take(
     let x = cursor::window(body, p / 8);
     let begin = (p % 8) as u64;
     let mut o = begin;
-    for k in 0..16 {
-        let v = plane[i + k];
+    for (k, pair) in pairs.iter_mut().enumerate() {
         let member = members::member(mask, c, i + k) as u64;
-        pairs[k] = (cursor::digits(x, o, 2) * member) as u32;
-        o = o + width(v, cursor::digits(x, o, 1), member);
+        *pair = (cursor::digits(x, o, 2) * member) as u32;
+        o += width(plane[i + k], cursor::digits(x, o, 1), member);
     }
     p + (o - begin) as usize
 }
 
-// Each of the 16 coefficients from i on after its two bits of plane t.
+// Each of the 16 coefficients from i on after its two bits of plane t. By `enumerate`, as in `take`.
 pub fn grow_all(plane: &mut [i32], pairs: &[u32], i: usize, t: u64, step: i32)
     requires { (i + 16 ≤ length plane.old) × (length pairs.now ≡ 16) × (step ≡ pos (2 ^ t)) × Small t plane.old i pairs.now }
     ensures { Grown t i 16 pairs.now plane.old plane.new }
 {
-    for k in 0..16 {
-        let v = plane[i + k];
-        let w = grow(v, pairs[k], t, step);
-        plane[i + k] = w;
+    for (k, v) in plane[i..i + 16].iter_mut().enumerate() {
+        *v = grow(*v, pairs[k], t, step);
     }
 }

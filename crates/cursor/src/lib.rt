@@ -1,4 +1,4 @@
-// The bit cursor: a lent body and the place of the next bit in it. `bit_at` and `after` do the work on plain values; the functions over the cursor are thin.
+// The bit cursor: a lent body and the place of the next bit in it. `bit_at` does the work on plain values; the cursor's methods are thin.
 // Beside it the window: 64 bits of a body at once, for blocks of coefficients.
 #![tactic(auto)]
 
@@ -17,73 +17,43 @@ pub struct BitCursor<'a> {
 pub fn bit_at(body: &[u8], at: usize) -> usize
     ensures { result ≡ bit_at body.now at }
 {
-    let k = at / 8;
-    if k < body.len() {
-        let x = body[k] as usize;
-        return (x >> (7 - at % 8)) % 2;
-    }
-    0
-}
-
-// The place after a place. The largest stays, so that a cursor can always be moved.
-fn after(at: usize) -> usize
-    ensures { result ≡ place_after at }
-{
-    if at < 18446744073709551615 {
-        return at + 1;
-    }
-    at
-}
-
-// The cursor over a body at a place.
-pub fn new<'a>(body: &'a [u8], at: usize) -> BitCursor<'a>
-    ensures { result ≡ over body.entry at }
-{
-    BitCursor { body, at }
-}
-
-// The cursor's place.
-pub fn at<'a>(c: BitCursor<'a>) -> usize
-    ensures { result ≡ c.entry.at }
-{
-    c.at
-}
-
-// The bit at the cursor's place, and 0 past the end.
-pub fn bit<'a>(c: BitCursor<'a>) -> usize
-    ensures { result ≡ bit_here c.entry }
-{
-    bit_at(c.body, c.at)
-}
-
-// The cursor, one place further.
-pub fn next<'a>(c: BitCursor<'a>) -> BitCursor<'a>
-    ensures { result ≡ moved c.entry }
-{
-    let n = after(c.at);
-    BitCursor {
-        body: c.body,
-        at: n,
+    match body.get(at / 8) {
+        Some(byte) => (*byte as usize >> (7 - at % 8)) % 2,
+        None => 0,
     }
 }
 
-// A byte as a wider number.
-fn wide(x: u8) -> u64
-    ensures { (result ≡ x) × (result < 256) }
-{
-    x as u64
-}
+impl<'a> BitCursor<'a> {
+    // The cursor over a body at a place.
+    pub fn new(body: &'a [u8], at: usize) -> BitCursor<'a>
+        ensures { result ≡ over body.entry at }
+    {
+        BitCursor { body, at }
+    }
 
-// The bits of the 4 bytes from byte k on as one number, the first its highest digit.
-fn half(body: &[u8], k: usize) -> u64
-    requires { k + 4 ≤ length body.now }
-    ensures { result ≡ gathered (bit_at body.now) (8 * k) 32 }
-{
-    let a = wide(body[k]);
-    let b = wide(body[k + 1]);
-    let c = wide(body[k + 2]);
-    let d = wide(body[k + 3]);
-    ((a * 256 + b) * 256 + c) * 256 + d
+    // The cursor's place.
+    pub fn at(self) -> usize
+        ensures { result ≡ self.entry.at }
+    {
+        self.at
+    }
+
+    // The bit at the cursor's place, and 0 past the end.
+    pub fn bit(self) -> usize
+        ensures { result ≡ bit_here self.entry }
+    {
+        bit_at(self.body, self.at)
+    }
+
+    // The cursor, one place further. The largest place stays, so that a cursor can always be moved.
+    pub fn next(self) -> BitCursor<'a>
+        ensures { result ≡ moved self.entry }
+    {
+        BitCursor {
+            body: self.body,
+            at: self.at.saturating_add(1),
+        }
+    }
 }
 
 // The bits of the 8 bytes from byte k on as one number, the first its highest digit.
@@ -91,7 +61,16 @@ pub fn window(body: &[u8], k: usize) -> u64
     requires { k + 8 ≤ length body.now }
     ensures { result ≡ gathered (bit_at body.now) (8 * k) 64 }
 {
-    (half(body, k) << 32) + half(body, k + 4)
+    u64::from_be_bytes([
+        body[k],
+        body[k + 1],
+        body[k + 2],
+        body[k + 3],
+        body[k + 4],
+        body[k + 5],
+        body[k + 6],
+        body[k + 7],
+    ])
 }
 
 // The n bits of a window that stand behind its first o, as a number.

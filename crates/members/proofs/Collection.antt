@@ -8,16 +8,16 @@ use native.Mathlib.Omega.{arith}
 use native.Mathlib.Numerals.{add-one}
 use lib.Dec.{leb}
 use lib.IntN.{ℤ, pos, nat_abs}
-use lib.ListN.{length, set, take, replicate}
+use lib.ListN.{length, get_or-append, set, take, replicate}
 use lib.Seq.{get_or-set_same, get_or-set_other, get_or-take, length-take-le}
 use Rattle.line.specs.Cells.{choose, behind, cell, total, count}
 use Rattle.line.proofs.Cells.{by_lt, by_bool, never}
-use Rattle.line.proofs.Counts.{count_one, count_off, count_marked, count_add}
+use Rattle.line.proofs.Counts.{count_one, count_off, count_marked, count_add, count-le}
 use Rattle.line.proofs.Lists.{front_cell}
 use Rattle.bitplane.proofs.Empty.{count_none}
 use Rattle.bitplane.specs.Body.{class, one_plane, planes, pass_bits, body}
 use Rattle.bitplane.specs.Reader.{Received, Reading, place, pass, read, missing}
-use Rattle.members.specs.Collection.{Collected, Kept}
+use Rattle.members.specs.Collection.{Collected, Listed, Kept}
 
 -- ---- the loops
 module _ {on : ℕ → Bool} where
@@ -36,10 +36,6 @@ module _ {on : ℕ → Bool} where
   unfolding count total
   collected_skip {i = i} o x = let e : i + 0 ≡ i = omega arith in collected_off 1 refl (rw (e, o) refl) x
 
-  -- the list has room for it
-  pub member_fits : {Z D : ℕ → ℤ} {i m : ℕ} (n : ℕ) → on i ≡ true → i < n → Collected on Z i D m → m < count n on
-  member_fits {i = i} n o h x = omega (arith, x.many, count_marked i n on h o)
-
   -- coefficient i is one: it goes into the list, or from the list to its place
   module _ {i m : ℕ} (o : on i ≡ true) (e : m ≡ count i on) where
     next_member : {Z D : ℕ → ℤ} → ((k : ℕ) → k < i → on k ≡ true → D (count k on) ≡ Z k) → D m ≡ Z i → Collected on Z (i + 1) D (m + 1)
@@ -56,6 +52,16 @@ module _ {on : ℕ → Bool} where
 
   pub kept_set : {Y : ℕ → ℤ} (l : List ℤ) (i : ℕ) (v : ℤ) → on i ≡ true → Kept on Y (cell l) → Kept on Y (cell (set l i v))
   kept_set l i v o x k off = get_or-set_other l i k v (pos 0) (λ e. never o (rw e at off)) ∙ x k off
+
+-- the list has room for one more
+pub member_fits : {mask : List ℕ} {c n i m size : ℕ} {Z D : ℕ → ℤ} → Listed mask c n size → class mask c i ≡ true → i < n → Collected (class mask c) Z i D m → (m < size) × (m < 16777216)
+member_fits {mask} {c} {n} {i} l o h x =
+    let fits = count_marked i n (class mask c) h o in
+    (omega (arith, x.many, fits, l.room), omega (arith, x.many, fits, l.size, count-le n (class mask c)))
+
+-- more cells behind those of the list
+pub collected_front : {on : ℕ → Bool} {Z : ℕ → ℤ} {n m : ℕ} (l r : List ℤ) → m ≤ length l → Collected on Z n (cell l) m → Collected on Z n (cell (l ++ r)) m
+collected_front {on} {n = n} l r h x = record { many = x.many; each = λ i g o. get_or-append l r (pos 0) (count i on) (omega (arith, x.many, count_marked i n on g o)) ∙ x.each i g o }
 
 -- ---- a list of places in which each cell is overwritten with what stands at its place: those before cell k are
 pub record Fetched (on : ℕ → Bool) (Z : ℕ → ℤ) (n : ℕ) (D : ℕ → ℤ) (k : ℕ) : Type 0 where

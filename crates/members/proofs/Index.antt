@@ -1,14 +1,16 @@
 -- Flags: how they are gathered in a word, and what a flag of 0 says to a pass. Assumes nothing.
 use mathlib.Core.Path.{◌≡◌, refl, sym, ap, ◌∙◌}
-use mathlib.Core.Bool.{Bool, true, false}
-use mathlib.Core.List.{List}
-use Prim.Native.Nat.{ℕ, suc, ◌+◌, ◌*◌, ◌-◌, ◌/◌, ◌%◌, ◌^◌, ◌<◌, ◌≤◌}
+use mathlib.Core.Bool.{Bool, true, false, not}
+use mathlib.Core.List.{List, ◌++◌}
+use Prim.Native.Nat.{ℕ, zero, suc, ◌+◌, ◌*◌, ◌-◌, ◌/◌, ◌%◌, ◌^◌, ◌<◌, ◌≤◌}
 use native.Mathlib.Omega.{arith}
 use native.Mathlib.Nat.{pow-succ', div-div-eq-div-mul, div-one, two-pow-succ, zero-div}
 use native.Mathlib.Numerals.{add-one}
-use lib.ListN.{length, get_or, set}
+use borrow.Author.Tests.{ne_eqb}
+use lib.Dec.{eqb}
+use lib.ListN.{length, get_or, get_or-append, set, take}
 use lib.Pow.{pow-lt}
-use lib.Seq.{get_or-set_same, get_or-set_other}
+use lib.Seq.{get_or-set_same, get_or-set_other, get_or-take}
 use Rattle.line.specs.Cells.{choose, behind, count}
 use Rattle.line.proofs.Cells.{by_lt, by_bool}
 use Rattle.bitplane.specs.Bits.{bit_of}
@@ -19,11 +21,9 @@ one_zero : {b : Bool} → b ≡ true → b ≡ false → ◌≡◌ {A = ℕ} 1 0
 one_zero e f = sym (ap (λ (b : Bool). choose {A = ℕ} b 1 0) e) ∙ ap (λ (b : Bool). choose {A = ℕ} b 1 0) f
 
 -- ---- one flag
-pub flag_none : {on : ℕ → Bool} {i n : ℕ} → n ≡ count 64 (behind i on) → n ≡ 0 → Flagged on i 0
-flag_none {on} {i} e z = record { bit = omega arith; each = λ k h o. sym (one_zero o (count_none 64 (behind i on) (sym e ∙ z) k h)) }
-
-pub flag_some : {on : ℕ → Bool} {i : ℕ} → Flagged on i 1
-flag_some = record { bit = omega arith; each = λ k h o. refl }
+pub flag_test : {on : ℕ → Bool} {i : ℕ} (n : ℕ) → n ≡ count 64 (behind i on) → Flagged on i (choose (not (eqb n 0)) 1 0)
+flag_test {on} {i} zero e = record { bit = omega arith; each = λ k h o. sym (one_zero o (count_none 64 (behind i on) (sym e) k h)) }
+flag_test (suc n) e = rw (ne_eqb (suc n) 0 (λ z. omega arith)) (record { bit = omega arith; each = λ k h o. refl })
 
 -- ---- a word: j flags so far
 pub record Flags (on : ℕ → Bool) (i j word : ℕ) : Type 0 where
@@ -70,10 +70,18 @@ words_more {on} {l} {k} {word} h w x = record {
       (λ ge. let e : j ≡ k = omega arith in rw (e, get_or-set_same l k word 0 h) x);
 }
 
+-- the first words of a buffer
+pub words_front : {on : ℕ → Bool} {l : List ℕ} {k : ℕ} (m : List ℕ) → k ≤ length l → Words on l k → Words on (l ++ m) k
+words_front {on} {l} m h w = record { each = λ j j<. rw (get_or-append l m 0 j (omega arith)) (w.each j j<) }
+
 pub words_all : {on : ℕ → Bool} {l : List ℕ} {n k : ℕ} → ((i : ℕ) → n ≤ i → on i ≡ false) → n ≤ 4096 * k → Words on l k → Indexed on l
 words_all {on} {l} {n} {k} past h w = record {
   each = λ j. by_lt j k (w.each j) (λ ge. record { each = λ m m< o. absurd (omega (arith, one_zero o (past (4096 * j + m) (omega arith)))) });
 }
+
+-- a word among the first w
+pub front_held : {on : ℕ → Bool} {l : List ℕ} (w k : ℕ) → k < w → Indexed on l → Held on (4096 * k) (get_or (take w l) k 0)
+front_held {l = l} w k h x = rw (get_or-take w l k 0 h) (x.each k)
 
 -- ---- what a pass may leave out
 module _ {on : ℕ → Bool} {i word : ℕ} (held : Held on i word) where

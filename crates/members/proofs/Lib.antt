@@ -1,3 +1,4 @@
 -- The laws of the members of a class.
 pub mod Index
 pub mod Collection
+pub mod Parts

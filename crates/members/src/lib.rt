@@ -8,7 +8,8 @@ ghost use Rattle.bitplane.specs.Body.{class};
 ghost use Rattle.members.specs.Index.{Flagged, Held, Indexed};
 ghost use Rattle.members.specs.Collection.{Collected, Listed, Kept};
 
-// 1 if coefficient i is of class c, else 0.
+// 1 if coefficient i is of class c, else 0: a number, so that a loop has no branch for each coefficient. A class is the mask's byte, which is
+// compared as it stands.
 pub fn member(mask: &[u8], c: u8, i: usize) -> u8
     requires { i < length mask.now }
     ensures { result ≡ choose (class mask.now c i) 1 0 }
@@ -17,14 +18,15 @@ pub fn member(mask: &[u8], c: u8, i: usize) -> u8
 }
 
 // Whether coefficient i is of class c; past the end of the mask none is.
+#[tactic(auto, unfolding(bitplane::specs::Body::class))]
 pub fn belongs(mask: &[u8], c: u8, i: usize) -> bool
     requires { c < 2 }
     ensures { result ≡ class mask.now c i }
 {
-    if mask.len() <= i {
-        return false;
+    match mask.get(i) {
+        Some(class) => *class == c,
+        None => false,
     }
-    mask[i] == c
 }
 
 // How many of the n coefficients from i on are of class c.
@@ -33,21 +35,18 @@ pub fn among(mask: &[u8], c: u8, i: usize, n: usize) -> usize
     ensures { result ≡ count n (behind i (class mask.now c)) }
 {
     let mut found: u8 = 0;
-    for k in 0..n {
-        found = found + member(mask, c, i + k);
+    for m in &mask[i..i + n] {
+        found += line::one(*m == c) as u8;
     }
     found as usize
 }
 
-// 0 if none of the 64 coefficients from i on is of class c. Where the mask ends before them, 1: a pass looks there itself.
-fn flag(mask: &[u8], c: u8, i: usize) -> u64
+// Whether any of the 64 coefficients from i on is of class c. Where the mask ends before them, true: a pass looks there itself.
+fn flag(mask: &[u8], c: u8, i: usize) -> bool
     requires { i ≤ 16781312 }
-    ensures { Flagged (class mask.now c) i result }
+    ensures { Flagged (class mask.now c) i (choose result 1 0) }
 {
-    if mask.len() < i + 64 {
-        return 1;
-    }
-    if among(mask, c, i, 64) == 0 { 0 } else { 1 }
+    mask.len() < i + 64 || among(mask, c, i, 64) != 0
 }
 
 // The flags of the 4,096 coefficients from i on, the first as the highest bit.
@@ -57,7 +56,7 @@ fn word(mask: &[u8], c: u8, i: usize) -> u64
 {
     let mut flags: u64 = 0;
     for j in 0..64 {
-        flags = (flags << 1) + flag(mask, c, i + 64 * j);
+        flags = (flags << 1) + line::one(flag(mask, c, i + 64 * j)) as u64;
     }
     flags
 }
@@ -76,8 +75,8 @@ pub fn find(mask: &[u8], c: u8, index: &mut [u64])
     ensures { Indexed (class mask.now c) index.new }
 {
     let n = words(mask.len());
-    for k in 0..n {
-        index[k] = word(mask, c, 4096 * k);
+    for (k, flags) in index[..n].iter_mut().enumerate() {
+        *flags = word(mask, c, 4096 * k);
     }
 }
 
@@ -96,17 +95,18 @@ fn place_run(mask: &[u8], c: u8, from: usize, to: usize, list: &mut [i32], n: us
     ensures { Collected (class mask.now c) pos to (cell list.new) result }
 {
     let mut m = n;
-    for i in from..to {
-        if mask[i] != c {
+    for (k, class) in mask[from..to].iter().enumerate() {
+        if *class != c {
             continue;
         }
-        list[m] = i as i32;
+        list[m] = (from + k) as i32;
         m += 1;
     }
     m
 }
 
-// Puts the places of the coefficients of class c into the list, one behind the other. The result is how many there are.
+// Puts the places of the coefficients of class c into the list, one behind the other. The result is how many there are. By the numbers of the
+// blocks, and no `chunks`: the places are what is listed.
 fn places(mask: &[u8], c: u8, list: &mut [i32]) -> usize
     requires { Listed mask.now c (length mask.now) (length list.old) }
     ensures { Collected (class mask.now c) pos (length mask.now) (cell list.new) result }
@@ -129,15 +129,15 @@ pub fn collect(plane: &[i32], mask: &[u8], c: u8, list: &mut [i32]) -> usize
     ensures { Collected (class mask.now c) (cell plane.now) (length plane.now) (cell list.new) result }
 {
     let n = places(mask, c, list);
-    for k in 0..n {
-        let place = whole::magnitude(list[k]) as usize;
-        list[k] = plane[place];
+    for v in &mut list[..n] {
+        *v = plane[whole::magnitude(*v) as usize];
     }
     n
 }
 
 // Puts the members of a list, from its cell n on, where the coefficients of class c from `from` to `to` lie. The result is the cell behind
-// the last of them.
+// the last of them. A walk of its own beside `place_run`: one for both would take its step as a trait, with a law of what a step does to list
+// and plane, and be longer than the two.
 fn spread_run(
     list: &[i32],
     mask: &[u8],
@@ -153,17 +153,17 @@ fn spread_run(
     ensures kept { Kept (class mask.now c) (cell plane.old) (cell plane.new) }
 {
     let mut m = n;
-    for i in from..to {
-        if mask[i] != c {
+    for (k, class) in mask[from..to].iter().enumerate() {
+        if *class != c {
             continue;
         }
-        plane[i] = list[m];
+        plane[from + k] = list[m];
         m += 1;
     }
     m
 }
 
-// Puts the members of a list where the coefficients of class c lie. The result is how many there are.
+// Puts the members of a list where the coefficients of class c lie, block by block as `places`. The result is how many there are.
 pub fn spread(list: &[i32], mask: &[u8], c: u8, plane: &mut [i32]) -> usize
     requires { Listed mask.now c (length plane.old) (length list.now) }
     ensures collected { Collected (class mask.now c) (cell plane.new) (length plane.old) (cell list.now) result }

@@ -1,2 +1,3 @@
 -- What the contracts of the reader cite.
 pub mod Reads
+pub mod Passes

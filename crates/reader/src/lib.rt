@@ -3,165 +3,126 @@
 
 ghost use Rattle.std.specs.Prelude.{◌≡◌, ℕ, ◌+◌, ◌*◌, ◌/◌, ◌^◌, ◌<◌, ◌≤◌, pos, length, get_or};
 ghost use Rattle.line.specs.Cells.{cell, count};
-ghost use Rattle.bitplane.specs.Body.{class, one_plane, planes};
+ghost use Rattle.bitplane.specs.Body.{class, planes};
 ghost use Rattle.bitplane.specs.Reader.{received, bad_filling};
 ghost use Rattle.members.specs.Index.{Held, Indexed};
-ghost use Rattle.reader.specs.Reads.{Ready, Spare, Unread, PartReady, reading, Continues, PassRead, PlanesRead, BodyRead};
+ghost use Rattle.reader.specs.Reads.{Ready, Spare, Unread, reading, PassRead, PlanesRead, BodyRead};
+ghost use Rattle.reader.specs.Passes.{Prepared, Goes, pass_of};
 
-// Reads plane t of the 16 coefficients from i on, from place p on, where 8 bytes are left. Where the next bit of each member is 0 nothing
-// changes.
-fn read_block(
-    body: &[u8],
-    plane: &mut [i32],
-    mask: &[u8],
-    c: u8,
+// A pass over a plane that is read: its bit plane t of the coefficients of a class, of which the body has the bits.
+#[derive(Clone, Copy)]
+struct Pass<'a> {
+    body: &'a [u8],
+    mask: &'a [u8],
+    class: u8,
     t: u64,
-    i: usize,
-    p: usize,
-) -> usize
-    requires { (i + 16 ≤ length plane.old) × (p / 8 + 8 ≤ length body.now) × PartReady body.now plane.old mask.now c t i p }
-    ensures { Continues body.now (one_plane (class mask.now c) t) plane.old p i plane.new result (i + 16) }
+}
+
+// Each function of a pass tells the place where it goes on, one past the end where a bit was missing: a number, no Option, since that place is
+// what `read_body` promises, and from it every step leaves all as it is.
+//
+// Reads the 16 coefficients from i on, from place p on, where 8 bytes are left. Where the next bit of each member is 0 nothing changes.
+fn read_block(pass: &Pass, plane: &mut [i32], i: usize, p: usize) -> usize
+    requires { (i + 16 ≤ length plane.old) × (p / 8 + 8 ≤ length pass.now.body.now) × Prepared pass.now plane.old i p }
+    ensures { Goes pass.now plane.old p i plane.new result (i + 16) }
 {
-    let members = members::among(mask, c, i, 16);
+    let members = members::among(pass.mask, pass.class, i, 16);
     if members == 0 {
         return p;
     }
-    let x = cursor::window(body, p / 8);
+    let x = cursor::window(pass.body, p / 8);
     if cursor::digits(x, (p % 8) as u64, members as u64) == 0 {
         return p + members;
     }
     let mut pairs = [0u32; 16];
-    let q = coefficient::take(body, plane, mask, c, i, p, &mut pairs);
-    coefficient::grow_all(plane, &pairs, i, t, coefficient::weight(t));
+    let q = coefficient::take(pass.body, plane, pass.mask, pass.class, i, p, &mut pairs);
+    coefficient::grow_all(plane, &pairs, i, pass.t, coefficient::weight(pass.t));
     q
 }
 
 // The same, one coefficient after the other: the body or the plane may end. At a coefficient for which no bit is left it stops, one place
-// past the end.
-fn read_rest(
-    body: &[u8],
-    plane: &mut [i32],
-    mask: &[u8],
-    c: u8,
-    t: u64,
-    from: usize,
-    p: usize,
-) -> usize
-    requires { (from ≤ 16785408) × PartReady body.now plane.old mask.now c t from p }
-    ensures { Continues body.now (one_plane (class mask.now c) t) plane.old p from plane.new result (from + 16) }
+// past the end. By an index: the plane may end before the 16, and of what `iter_mut` gives under `skip` and `take` nothing is known.
+fn read_rest(pass: &Pass, plane: &mut [i32], from: usize, p: usize) -> usize
+    requires { (from ≤ 16785408) × Prepared pass.now plane.old from p }
+    ensures { Goes pass.now plane.old p from plane.new result (from + 16) }
 {
-    let step = coefficient::weight(t);
-    let end = 8 * body.len();
+    let step = coefficient::weight(pass.t);
+    let end = 8 * pass.body.len();
     let mut q = p;
     for i in from..from + 16 {
-        if !members::belongs(mask, c, i) {
+        if !members::belongs(pass.mask, pass.class, i) {
             continue;
         }
         if q >= end {
             return end + 1;
         }
         let v = plane[i];
-        let b = coefficient::bit(body, q);
-        let two = coefficient::pair(body, q, b, v);
-        let w = coefficient::grow(v, two, t, step);
-        plane[i] = w;
+        let b = coefficient::bit(pass.body, q);
+        let two = coefficient::pair(pass.body, q, b, v);
+        plane[i] = coefficient::grow(v, two, pass.t, step);
         q += coefficient::width(v, b as u64, 1) as usize;
     }
     q
 }
 
 // The same, as a block where one is left.
-fn read_some(
-    body: &[u8],
-    plane: &mut [i32],
-    mask: &[u8],
-    c: u8,
-    t: u64,
-    from: usize,
-    p: usize,
-) -> usize
-    requires { (from ≤ 16785408) × PartReady body.now plane.old mask.now c t from p }
-    ensures { Continues body.now (one_plane (class mask.now c) t) plane.old p from plane.new result (from + 16) }
+fn read_some(pass: &Pass, plane: &mut [i32], from: usize, p: usize) -> usize
+    requires { (from ≤ 16785408) × Prepared pass.now plane.old from p }
+    ensures { Goes pass.now plane.old p from plane.new result (from + 16) }
 {
     if plane.len() < from + 16 {
-        return read_rest(body, plane, mask, c, t, from, p);
+        return read_rest(pass, plane, from, p);
     }
-    if body.len() < p / 8 + 8 {
-        return read_rest(body, plane, mask, c, t, from, p);
+    if pass.body.len() < p / 8 + 8 {
+        return read_rest(pass, plane, from, p);
     }
-    read_block(body, plane, mask, c, t, from, p)
+    read_block(pass, plane, from, p)
 }
 
-// Reads plane t of the 64 coefficients from `from` on, from place p on.
-fn read_blocks(
-    body: &[u8],
-    plane: &mut [i32],
-    mask: &[u8],
-    c: u8,
-    t: u64,
-    from: usize,
-    p: usize,
-) -> usize
-    requires { (from ≤ 16781312) × PartReady body.now plane.old mask.now c t from p }
-    ensures { Continues body.now (one_plane (class mask.now c) t) plane.old p from plane.new result (from + 64) }
+// Reads the 64 coefficients from `from` on, from place p on.
+fn read_blocks(pass: &Pass, plane: &mut [i32], from: usize, p: usize) -> usize
+    requires { (from ≤ 16781312) × Prepared pass.now plane.old from p }
+    ensures { Goes pass.now plane.old p from plane.new result (from + 64) }
 {
     let mut q = p;
     for b in 0..4 {
-        q = read_some(body, plane, mask, c, t, from + 16 * b, q);
+        q = read_some(pass, plane, from + 16 * b, q);
     }
     q
 }
 
-// Reads plane t of the 4,096 coefficients from `from` on: of each 64 only if their flag in `word` is 1.
-fn read_word(
-    body: &[u8],
-    plane: &mut [i32],
-    mask: &[u8],
-    word: u64,
-    c: u8,
-    t: u64,
-    from: usize,
-    p: usize,
-) -> usize
-    requires { (from ≤ 16777216) × PartReady body.now plane.old mask.now c t from p × Held (class mask.now c) from word }
-    ensures { Continues body.now (one_plane (class mask.now c) t) plane.old p from plane.new result (from + 4096) }
+// Reads the 4,096 coefficients from `from` on: of each 64 only if their flag in `word` is 1.
+fn read_word(pass: &Pass, plane: &mut [i32], word: u64, from: usize, p: usize) -> usize
+    requires { (from ≤ 16777216) × Prepared pass.now plane.old from p × Held (class pass.now.mask.now pass.now.class) from word }
+    ensures { Goes pass.now plane.old p from plane.new result (from + 4096) }
 {
     let mut q = p;
     for j in 0..64 {
         if (word >> (63 - j)) % 2 == 0 {
             continue;
         }
-        q = read_blocks(body, plane, mask, c, t, from + 64 * j, q);
+        q = read_blocks(pass, plane, from + 64 * j, q);
     }
     q
 }
 
-// Reads plane t of the coefficients of class c, from place p on, by the flags that say where they lie. Past the end of the body it looks at
-// no more of them.
-fn read_pass(
-    body: &[u8],
-    plane: &mut [i32],
-    mask: &[u8],
-    index: &[u64],
-    c: u8,
-    t: u64,
-    p: usize,
-) -> usize
-    requires { PartReady body.now plane.old mask.now c t 0 p × (length index.now ≡ 4096) × Indexed (class mask.now c) index.now }
-    ensures { PassRead (received body.now) (length plane.old) (one_plane (class mask.now c) t) (reading plane.old p) plane.new result }
+// Reads a pass, from place p on, by the flags that say where the coefficients of its class lie. Past the end of the body it looks at no more
+// of them.
+fn read_pass(pass: &Pass, plane: &mut [i32], index: &[u64], p: usize) -> usize
+    requires { Prepared pass.now plane.old 0 p × (length index.now ≡ 4096) × Indexed (class pass.now.mask.now pass.now.class) index.now }
+    ensures { PassRead (received pass.now.body.now) (length plane.old) (pass_of pass.now) (reading plane.old p) plane.new result }
 {
-    let end = 8 * body.len();
+    let end = 8 * pass.body.len();
     let words = members::words(plane.len());
     let mut q = p;
-    for k in 0..words {
-        let word = index[k];
-        if word == 0 {
+    for (k, word) in index[..words].iter().enumerate() {
+        if *word == 0 {
             continue;
         }
         if end < q {
             continue;
         }
-        q = read_word(body, plane, mask, word, c, t, 4096 * k, q);
+        q = read_word(pass, plane, *word, 4096 * k, q);
     }
     q
 }
@@ -190,17 +151,20 @@ pub fn read_planes(
     members::find(mask, c, &mut index);
     let end = 8 * body.len();
     let mut q = p;
-    let mut t = top;
-    while t > 0 {
-        let next = read_pass(body, plane, mask, &index, c, t - 1, q);
-        if end < next {
+    for t in (0..top).rev() {
+        let pass = Pass {
+            body,
+            mask,
+            class: c,
+            t,
+        };
+        q = read_pass(&pass, plane, &index, q);
+        if end < q {
             return Reached {
-                at: next,
-                missing: t,
+                at: q,
+                missing: t + 1,
             };
         }
-        q = next;
-        t -= 1;
     }
     Reached { at: q, missing: 0 }
 }
@@ -260,9 +224,7 @@ fn read_class(
 pub fn clear(plane: &mut [i32])
     ensures { (i : ℕ) → cell plane.new i ≡ pos 0 }
 {
-    for i in 0..plane.len() {
-        plane[i] = 0;
-    }
+    plane.fill(0);
 }
 
 // Where the two parts of a body end, and how many planes of the unmarked were not wholly received.
@@ -304,8 +266,8 @@ pub fn bad_filling(body: &[u8], end: usize) -> bool
     if (end + 7) / 8 < body.len() {
         return true;
     }
-    for k in 0..bits - end {
-        if coefficient::bit(body, end + k) != 0 {
+    for p in end..bits {
+        if coefficient::bit(body, p) != 0 {
             return true;
         }
     }

@@ -40,6 +40,26 @@ stored_more {m} {now} {k} {x} j a v s e h d = record {
   over = λ i g. get_or-set_other now a i v 0 (omega arith) ∙ s.over i (omega arith);
 }
 
+-- the first, the first two, and so on
+module _ {m : List ℕ} {k x a : ℕ} (first : a ≡ x / 2 ^ 32 % 256) where
+  pub stored_1 : k < length m → Stored m k x 1 (set m k a)
+  stored_1 h = stored_more 0 k a (stored_none m k x) (omega arith) h first
+
+  module _ {b : ℕ} (second : b ≡ x / 2 ^ 24 % 256) where
+    pub stored_2 : k + 1 < length m → Stored m k x 2 (set (set m k a) (k + 1) b)
+    stored_2 h = stored_more 1 (k + 1) b (stored_1 (omega arith)) refl h second
+
+    module _ {d : ℕ} (third : d ≡ x / 2 ^ 16 % 256) where
+      pub stored_3 : k + 2 < length m → Stored m k x 3 (set (set (set m k a) (k + 1) b) (k + 2) d)
+      stored_3 h = stored_more 2 (k + 2) d (stored_2 (omega arith)) refl h third
+
+      module _ {e : ℕ} (fourth : e ≡ x / 2 ^ 8 % 256) where
+        pub stored_4 : k + 3 < length m → Stored m k x 4 (set (set (set (set m k a) (k + 1) b) (k + 2) d) (k + 3) e)
+        stored_4 h = stored_more 3 (k + 3) e (stored_3 (omega arith)) refl h fourth
+
+        pub stored_5 : {f : ℕ} → f ≡ x / 2 ^ 0 % 256 → k + 4 < length m → Stored m k x 5 (set (set (set (set (set m k a) (k + 1) b) (k + 2) d) (k + 3) e) (k + 4) f)
+        stored_5 {f} fifth h = stored_more 4 (k + 4) f (stored_4 (omega arith)) refl h fifth
+
 -- ---- what `put` stores
 module _ (m : List ℕ) (p number n x : ℕ) (fits : Fits number n p m) (small : get_or m (p / 8) 0 < 256)
     (opened : x ≡ (get_or m (p / 8) 0 / 2 ^ (8 - p % 8) * 2 ^ n + number) * 2 ^ (40 - (p % 8 + n))) where

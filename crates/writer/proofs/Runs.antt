@@ -7,15 +7,18 @@ use native.Mathlib.Nat.{add-suc, zero-add}
 use native.Mathlib.Numerals.{add-one}
 use native.Mathlib.Omega.{arith}
 use lib.IntN.{ℤ, nat_abs}
-use lib.ListN.{length, length-append, get_or, set}
+use lib.ListN.{length, length-append, set}
 use lib.Seq.{get_or-set_same, get_or-set_other}
-use borrow.Author.Count.{below_more}
 use lib.Pow.{pow_mono, shl_exact}
 use Rattle.line.specs.Cells.{choose, behind, cell, total, count}
+use Rattle.line.proofs.Cells.{by_lt}
 use Rattle.bitplane.specs.Body.{Pass, class, sign_after, code, pass_bits}
 use Rattle.bitplane.proofs.Empty.{bits_none}
 use Rattle.bitplane.proofs.Bytes.{Binary, code_binary, pass_binary}
-use Rattle.writer.specs.Written.{extended, Digits, given, Fits, Room, Sends, run, Each}
+use Rattle.writer.specs.declared.Pass.{Pass as Turn}
+use Rattle.writer.specs.declared.Gathered.{Gathered}
+use Rattle.writer.specs.Written.{extended, Digits, given, Fits, Room, Sends, run}
+use Rattle.writer.specs.Passes.{gives_at, Each}
 use Rattle.writer.proofs.Digits.{extended-append, extended_behind, extended_small}
 use Rattle.writer.proofs.Codes.{code-length}
 use Rattle.writer.proofs.Passes.{sends_none, sends_both, room_fits}
@@ -104,11 +107,11 @@ module _ (x : Pass) (Z : ℕ → ℤ) where
   run_start i = record { value = refl; many = refl }
 
   -- ---- one coefficient more: its digits as a number a, w of them
-  pub run_next : {number n a w : ℕ} (i k : ℕ) → number < 2 ^ 62 → Digits (run x Z i k) number n → a ≡ extended 0 (choose (x.on (i + k)) (code x.plane (Z (i + k))) []) → w ≡ length (choose (x.on (i + k)) (code x.plane (Z (i + k))) [])
-      → Digits (run x Z i (k + 1)) (number * 2 ^ w % 2 ^ 64 + a) (n + w)
+  pub run_next : {number n a w : ℕ} (i k : ℕ) → number < 2 ^ 30 → Digits (run x Z i k) number n → a ≡ extended 0 (choose (x.on (i + k)) (code x.plane (Z (i + k))) []) → w ≡ length (choose (x.on (i + k)) (code x.plane (Z (i + k))) [])
+      → Digits (run x Z i (k + 1)) (number * 2 ^ w % 2 ^ 32 + a) (n + w)
   run_next {number} {w = w} i k h s e f =
       let new = choose (x.on (i + k)) (code x.plane (Z (i + k))) [] in let g = given_length (x.on (i + k)) x.plane (Z (i + k)) in
-      let d : number * 2 ^ w % 2 ^ 64 ≡ number * 2 ^ w = shl_exact 62 w 64 h (omega arith) in
+      let d : number * 2 ^ w % 2 ^ 32 ≡ number * 2 ^ w = shl_exact 30 w 32 h (omega arith) in
       rw (run_more i k) (digits_more new s (rw (d, e, f) (sym (extended_behind number new))) f)
 
   -- ---- bounds
@@ -127,8 +130,8 @@ module _ (x : Pass) (Z : ℕ → ℤ) where
   pub run_fits : {number n p m : ℕ} {out : List ℕ} (i : ℕ) → m ≡ count 16 (behind i x.on) → (m ≡ 0 → ⊥) → Digits (run x Z i 16) number n → Room (run x Z i 16) p out → Fits number n p out
   run_fits i e some d r = let b = run_many i 16 in room_fits (run_binary i 16) d (omega arith) (omega arith) r
 
-  pub run_small : {number count : ℕ} (i n : ℕ) → n ≤ 31 → Digits (run x Z i n) number count → number < 2 ^ 62
-  run_small i n h d = omega (arith, d.value, extended_small (run x Z i n) (run_binary i n), pow_mono {i = length (run x Z i n)} {j = 62} (omega (arith, run_many i n)))
+  pub run_small : {number count : ℕ} (i n b : ℕ) → 2 * n ≤ b → Digits (run x Z i n) number count → number < 2 ^ b
+  run_small i n b h d = omega (arith, d.value, extended_small (run x Z i n) (run_binary i n), pow_mono {i = length (run x Z i n)} {j = b} (omega (arith, run_many i n)))
 
   -- ---- no member among n coefficients has begun
   zero-run : (i n : ℕ) → ((k : ℕ) → k < n → x.on (i + k) ≡ true → nat_abs (Z (i + k)) / 2 ^ x.plane ≡ 0) → Digits (run x Z i n) 0 (count n (behind i x.on))
@@ -142,21 +145,23 @@ module _ (x : Pass) (Z : ℕ → ℤ) where
   run-zero i n e z = rw e (zero-run i n z)
 
 -- ---- what a loop over some coefficients keeps of each; m is 1 for a member
-module _ {mask : List ℕ} {t : ℕ} {plane : List ℤ} {c i : ℕ} where
-  pub each_start : {numbers widths : List ℕ} → Each mask t plane c i 0 numbers widths
-  each_start = record { number = λ k h. absurd (omega arith); width = λ k h. absurd (omega arith) }
+module _ {s : Turn} {i : ℕ} {found : List Gathered} where
+  pub each_start : Each s i 0 found
+  each_start = record { digits = λ k d h. absurd (omega arith) }
 
-  pub each_more : {numbers widths : List ℕ} {z : ℤ} {m a w : ℕ} (k : ℕ) → k < length numbers → k < length widths → z ≡ cell plane (i + k) → m ≡ choose (class mask c (i + k)) 1 0 → a ≡ extended 0 (given t z m) → w ≡ length (given t z m)
-      → Each mask t plane c i k numbers widths → Each mask t plane c i (k + 1) (set numbers k a) (set widths k w)
-  each_more {numbers} {widths} {z} {m} {a} {w} k h g d e y v s =
-      let f : given t z m ≡ choose (class mask c (i + k)) (code t (cell plane (i + k))) [] = rw d (given_is (class mask c (i + k)) t (cell plane (i + k)) m e) in
+  pub each_more : {z : ℤ} {m : ℕ} (k : ℕ) (d : Gathered) → k < length found → z ≡ cell s.plane.now (i + k) → m ≡ choose (class s.mask.now s.class (i + k)) 1 0 → Digits (given s.t z m) d.number d.count
+      → Each s i k found → Each s i (k + 1) (set found k d)
+  each_more {z} {m} k d h e f g x =
+      let same : given s.t z m ≡ gives_at s (i + k) = rw e (given_is (class s.mask.now s.class (i + k)) s.t (cell s.plane.now (i + k)) m f) in
+      let gives : Digits (gives_at s (i + k)) d.number d.count = rw same at g in
       record {
-        number = below_more _ k (λ j j<. get_or-set_other numbers k j a 0 (omega arith) ∙ s.number j j<) (get_or-set_same numbers k a 0 h ∙ y ∙ ap (extended 0) f);
-        width = below_more _ k (λ j j<. get_or-set_other widths k j w 0 (omega arith) ∙ s.width j j<) (get_or-set_same widths k w 0 g ∙ v ∙ ap length f);
+        digits = λ j d' j<. by_lt j k
+            (λ lt. rw (get_or-set_other found k j d d' (omega arith)) (x.digits j d' lt))
+            (λ ge. let same : j ≡ k = omega arith in rw (same, get_or-set_same found k d d' h) gives);
       }
 
-  -- no coefficient gives more than two digits, and these are no larger than 3
-  pub each_few : {numbers widths : List ℕ} {n : ℕ} (k : ℕ) → k < n → Each mask t plane c i n numbers widths → (get_or widths k 0 ≤ 2) × (get_or numbers k 0 < 4)
-  each_few k h s =
-      let new = choose (class mask c (i + k)) (code t (cell plane (i + k))) [] in let g = given_length (class mask c (i + k)) t (cell plane (i + k)) in
-      (omega (arith, s.width k h), omega (arith, s.number k h, extended_small new (code_binary (class mask c (i + k)) t (cell plane (i + k))), pow_mono {i = length new} {j = 2} g.1))
+-- no coefficient gives more than two digits, and these are no larger than 3
+pub gives_few : {number count : ℕ} (s : Turn) (i : ℕ) → Digits (gives_at s i) number count → (count ≤ 2) × (number < 4)
+gives_few s i d =
+    let new = gives_at s i in let g = given_length (class s.mask.now s.class i) s.t (cell s.plane.now i) in
+    (omega (arith, d.many), omega (arith, d.value, extended_small new (code_binary (class s.mask.now s.class i) s.t (cell s.plane.now i)), pow_mono {i = length new} {j = 2} g.1))

@@ -11,7 +11,6 @@
 --   Sends new p before now r == that, and r is the place behind them
 --   run x Z i n              == the bits of pass x over the n coefficients from i on
 --   share mask t plane c i n == the bits that those of class c among them give to bit plane t
---   Each mask t plane c i n numbers widths == the digits that each of the n coefficients from i on gives to bit plane t as one of class c, as a number, and how many they are
 --   PassReady mask plane c   == the mask has a byte for each coefficient, of which there are at most 2^24, and c is 0 or 1
 --   part mask top plane c    == the bits that class c of a plane gives to its body
 --   BodyReady mask top plane marks out == the mask has a 0 or a 1 for each coefficient, at most 2^24 of them, 1 for `marks`, and the body fits into out
@@ -65,10 +64,6 @@ run x Z i n = pass_bits (one_plane (behind i x.on) x.plane) (behind i Z) n
 
 abbrev pub share : List ℕ → ℕ → List ℤ → ℕ → ℕ → ℕ → List ℕ
 share mask t plane c i n = run (one_plane (class mask c) t) (cell plane) i n
-
-pub record Each (mask : List ℕ) (t : ℕ) (plane : List ℤ) (c i n : ℕ) (numbers widths : List ℕ) : Type 0 where
-  pub number : (k : ℕ) → k < n → get_or numbers k 0 ≡ extended 0 (choose (class mask c (i + k)) (code t (cell plane (i + k))) [])
-  pub width : (k : ℕ) → k < n → get_or widths k 0 ≡ length (choose (class mask c (i + k)) (code t (cell plane (i + k))) [])
 
 pub record PassReady (mask : List ℕ) (plane : List ℤ) (c : ℕ) : Type 0 where
   pub over : length mask ≡ length plane

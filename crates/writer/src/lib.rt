@@ -5,7 +5,24 @@ ghost use Rattle.std.specs.Prelude.{◌≡◌, true, ℕ, ◌+◌, ◌-◌, ◌*
 ghost use Rattle.line.specs.Cells.{cell, count};
 ghost use Rattle.bitplane.specs.Body.{class, one_plane, planes, code, pass_bits, body};
 ghost use Rattle.members.specs.Index.{Held, Indexed};
-ghost use Rattle.writer.specs.Written.{PassReady, extended, given, Digits, Fits, Puts, Room, Sends, share, Each, part, BodyReady, BodyWritten};
+ghost use Rattle.writer.specs.Written.{PassReady, given, Digits, Fits, Puts, Room, Sends, part, BodyReady, BodyWritten};
+ghost use Rattle.writer.specs.Passes.{Sound, stretch, whole_pass, Each};
+
+// A pass: plane t of the coefficients of a class.
+#[derive(Clone, Copy)]
+struct Pass<'a> {
+    plane: &'a [i32],
+    mask: &'a [u8],
+    class: u8,
+    t: u32,
+}
+
+// Binary digits as a number, and how many they are.
+#[derive(Clone, Copy)]
+struct Gathered {
+    number: u32,
+    count: u32,
+}
 
 // 40 bits as a number: the first o bits of the byte `old`, behind them the n digits of `number`, then zeros.
 fn window(old: u8, o: u64, number: u64, n: u64) -> u64
@@ -53,6 +70,16 @@ fn put(out: &mut [u8], p: usize, number: u64, n: u64)
     out[k + 4] = byte(x, 0);
 }
 
+// The same of digits that were gathered. The result is the place behind them.
+fn send(out: &mut [u8], p: usize, digits: Gathered) -> usize
+    requires { Fits digits.number digits.count p out.old }
+    ensures puts { Puts digits.number digits.count p out.old out.new }
+    ensures place { result ≡ p + digits.count }
+{
+    put(out, p, digits.number as u64, digits.count as u64);
+    p + digits.count as usize
+}
+
 // The magnitude of coefficient z down to plane t.
 fn down(z: i32, t: u32) -> u32
     requires { t < 32 }
@@ -61,266 +88,165 @@ fn down(z: i32, t: u32) -> u32
     whole::magnitude(z) as u32 >> t
 }
 
-// The digits that coefficient z gives to plane t, as a number, if it is a member of the class (1), and 0 if not (0). A first 1 has its sign
-// behind it and counts twice.
-fn gives(z: i32, t: u32, member: u32) -> u32
+// The digits that coefficient z gives to plane t if it is a member of the class (1), and none if not (0). A first 1 has its sign behind it and
+// counts twice.
+fn gives(z: i32, t: u32, member: u32) -> Gathered
     requires { (t < 32) × (member < 2) }
-    ensures { result ≡ extended 0 (given t z member) }
+    ensures { Digits (given t z member) result.number result.count }
 {
     let h = down(z, t);
     let first = line::one(h == 1) as u32 & member;
     let s = line::one(z < 0) as u32 & first;
-    (h & member) + first + s
+    Gathered {
+        number: (h & member) + first + s,
+        count: member + first,
+    }
 }
 
-// How many digits these are.
-fn width(z: i32, t: u32, member: u32) -> u32
-    requires { (t < 32) × (member < 2) }
-    ensures { result ≡ length (given t z member) }
-{
-    let h = down(z, t);
-    member + (line::one(h == 1) as u32 & member)
-}
-
-// Writes what coefficient z gives to plane t, from place p on.
-fn put_code(out: &mut [u8], p: usize, z: i32, t: u64) -> usize
-    requires t_bound { t < 32 }
-    requires room { Room (code t z) p out.old }
-    ensures { Sends (code t z) p out.old out.new result }
-{
-    let n = width(z, t as u32, 1) as u64;
-    put(out, p, gives(z, t as u32, 1) as u64, n);
-    p + n as usize
-}
-
-// All magnitudes of the 16 coefficients from i on, joined bit by bit: none is larger.
-fn high(plane: &[i32], i: usize) -> u32
-    requires { i + 16 ≤ length plane.now }
-    ensures { (k : ℕ) → k < 16 → nat_abs (cell plane.now (i + k)) ≤ result }
+// The magnitudes of the 16 coefficients from i on, joined bit by bit: none is larger.
+fn high(pass: &Pass, i: usize) -> u32
+    requires { Sound pass.now × (i + 16 ≤ length pass.now.plane.now) }
+    ensures { (k : ℕ) → k < 16 → nat_abs (cell pass.now.plane.now (i + k)) ≤ result }
 {
     let mut high: u32 = 0;
-    for j in 0..16 {
-        high = high | whole::magnitude(plane[i + j]) as u32;
+    for z in &pass.plane[i..i + 16] {
+        high |= whole::magnitude(*z) as u32;
     }
     high
 }
 
-// The same of those of class c alone.
-fn high_members(plane: &[i32], mask: &[u8], c: u8, i: usize) -> u32
-    requires { (i + 16 ≤ length plane.now) × (length mask.now ≡ length plane.now) }
-    ensures { (k : ℕ) → k < 16 → class mask.now c (i + k) ≡ true → nat_abs (cell plane.now (i + k)) ≤ result }
+// Whether none of them has begun: the zeros of those of the class are then all that they give. Of whatever class: the mask need not be read.
+fn idle(pass: &Pass, i: usize) -> bool
+    requires { Sound pass.now × (i + 16 ≤ length pass.now.plane.now) }
+    ensures { result ≡ true → (k : ℕ) → k < 16 → nat_abs (cell pass.now.plane.now (i + k)) / 2 ^ pass.now.t ≡ 0 }
 {
-    let mut high: u32 = 0;
-    for j in 0..16 {
-        let member = members::member(mask, c, i + j) as u32;
-        high = high | (whole::magnitude(plane[i + j]) as u32 * member);
-    }
-    high
+    high(pass, i) >> pass.t == 0
 }
 
-// Whether none of the members of class c among the 16 coefficients from i on, of which there are so many, has begun at plane t.
-fn idle(plane: &[i32], mask: &[u8], c: u8, t: u64, i: usize, members: usize) -> bool
-    requires { (t < 32) × (i + 16 ≤ length plane.now) × (length mask.now ≡ length plane.now) }
-    ensures { result ≡ true → (k : ℕ) → k < 16 → class mask.now c (i + k) ≡ true → nat_abs (cell plane.now (i + k)) / 2 ^ t ≡ 0 }
+// What each of the 16 coefficients from i on gives. By `enumerate` and no `zip`: under `zip` a proof has no name for what was written by
+// `iter_mut`.
+fn each(pass: &Pass, i: usize, found: &mut [Gathered])
+    requires { Sound pass.now × (i + 16 ≤ length pass.now.plane.now) × (length found.old ≡ 16) }
+    ensures { Each pass.now i 16 found.new }
 {
-    if high(plane, i) as u64 >> t == 0 {
-        return true;
-    }
-    if members == 16 {
-        return false;
-    }
-    high_members(plane, mask, c, i) as u64 >> t == 0
-}
-
-// The digits that a block gives, as a number, and how many they are.
-#[derive(Clone, Copy)]
-struct Gathered {
-    number: u64,
-    count: u64,
-}
-
-// What each of the 16 coefficients from i on gives to plane t: its digits, as a number, and how many they are.
-fn each(
-    plane: &[i32],
-    mask: &[u8],
-    c: u8,
-    t: u32,
-    i: usize,
-    numbers: &mut [u32],
-    widths: &mut [u32],
-)
-    requires { (t < 32) × (i + 16 ≤ length plane.now) × (length mask.now ≡ length plane.now) × (length numbers.old ≡ 16) × (length widths.old ≡ 16) }
-    ensures { Each mask.now t plane.now c i 16 numbers.new widths.new }
-{
-    for k in 0..16 {
-        let z = plane[i + k];
-        let member = members::member(mask, c, i + k) as u32;
-        numbers[k] = gives(z, t, member);
-        widths[k] = width(z, t, member);
+    for (k, digits) in found.iter_mut().enumerate() {
+        let member = members::member(pass.mask, pass.class, i + k) as u32;
+        *digits = gives(pass.plane[i + k], pass.t, member);
     }
 }
 
 // What they give together. No branch for each of them: their bits cannot be foreseen.
-fn gather(plane: &[i32], mask: &[u8], c: u8, t: u64, i: usize) -> Gathered
-    requires { (t < 32) × (i + 16 ≤ length plane.now) × (length mask.now ≡ length plane.now) }
-    ensures { Digits (share mask.now t plane.now c i 16) result.number result.count }
+fn gather(pass: &Pass, i: usize) -> Gathered
+    requires { Sound pass.now × (i + 16 ≤ length pass.now.plane.now) }
+    ensures { Digits (stretch pass.now i 16) result.number result.count }
 {
-    let mut numbers = [0u32; 16];
-    let mut widths = [0u32; 16];
-    each(plane, mask, c, t as u32, i, &mut numbers, &mut widths);
-    let mut number: u64 = 0;
-    let mut count: u64 = 0;
-    for n in 0..16 {
-        let width = widths[n] as u64;
-        number = (number << width) + numbers[n] as u64;
-        count = count + width;
+    let mut found = [Gathered {
+        number: 0,
+        count: 0,
+    }; 16];
+    each(pass, i, &mut found);
+    let mut number: u32 = 0;
+    let mut count: u32 = 0;
+    for digits in &found {
+        number = (number << digits.count) + digits.number;
+        count += digits.count;
     }
-    Gathered {
-        number: number,
-        count: count,
-    }
+    Gathered { number, count }
 }
 
-// Writes what the 16 coefficients from i on give to plane t. Where no member has begun these are zeros, one for each.
-fn write_block(
-    out: &mut [u8],
-    plane: &[i32],
-    mask: &[u8],
-    c: u8,
-    t: u64,
-    i: usize,
-    p: usize,
-) -> usize
-    requires t_bound { (t < 32) × (i + 16 ≤ length plane.now) × (length mask.now ≡ length plane.now) }
-    requires room { Room (share mask.now t plane.now c i 16) p out.old }
-    ensures { Sends (share mask.now t plane.now c i 16) p out.old out.new result }
+// Writes what the 16 coefficients from i on give. Where no member has begun these are zeros, one for each.
+fn write_block(out: &mut [u8], pass: &Pass, i: usize, p: usize) -> usize
+    requires within { Sound pass.now × (i + 16 ≤ length pass.now.plane.now) }
+    requires room { Room (stretch pass.now i 16) p out.old }
+    ensures { Sends (stretch pass.now i 16) p out.old out.new result }
 {
-    let members = members::among(mask, c, i, 16);
+    let members = members::among(pass.mask, pass.class, i, 16);
     if members == 0 {
         return p;
     }
-    if idle(plane, mask, c, t, i, members) {
-        put(out, p, 0, members as u64);
-        return p + members;
+    if idle(pass, i) {
+        let zeros = Gathered {
+            number: 0,
+            count: members as u32,
+        };
+        return send(out, p, zeros);
     }
-    let found = gather(plane, mask, c, t, i);
-    put(out, p, found.number, found.count);
-    p + found.count as usize
+    send(out, p, gather(pass, i))
 }
 
-// Writes what the 64 coefficients from `from` on give to plane t.
-fn write_blocks(
-    out: &mut [u8],
-    plane: &[i32],
-    mask: &[u8],
-    c: u8,
-    t: u64,
-    from: usize,
-    p: usize,
-) -> usize
-    requires t_bound { (t < 32) × (from + 64 ≤ length plane.now) × (length mask.now ≡ length plane.now) }
-    requires room { Room (share mask.now t plane.now c from 64) p out.old }
-    ensures { Sends (share mask.now t plane.now c from 64) p out.old out.new result }
+// Writes what the 64 coefficients from `from` on give.
+fn write_blocks(out: &mut [u8], pass: &Pass, from: usize, p: usize) -> usize
+    requires within { Sound pass.now × (from + 64 ≤ length pass.now.plane.now) }
+    requires room { Room (stretch pass.now from 64) p out.old }
+    ensures { Sends (stretch pass.now from 64) p out.old out.new result }
 {
     let mut q = p;
     for b in 0..4 {
-        q = write_block(out, plane, mask, c, t, from + 16 * b, q);
+        q = write_block(out, pass, from + 16 * b, q);
     }
     q
 }
 
-// Writes what the coefficients from `from` to the end give to plane t, one by one: they may not fill a block.
-fn write_rest(
-    out: &mut [u8],
-    plane: &[i32],
-    mask: &[u8],
-    c: u8,
-    t: u64,
-    from: usize,
-    p: usize,
-) -> usize
-    requires t_bound { (t < 32) × (length mask.now ≡ length plane.now) }
-    requires room { Room (share mask.now t plane.now c from (length plane.now - from)) p out.old }
-    ensures { Sends (share mask.now t plane.now c from (length plane.now - from)) p out.old out.new result }
+// Writes what the coefficients from `from` to the end give, one by one: they may not fill a block.
+fn write_rest(out: &mut [u8], pass: &Pass, from: usize, p: usize) -> usize
+    requires within { Sound pass.now × (from ≤ length pass.now.plane.now) }
+    requires room { Room (stretch pass.now from (length pass.now.plane.now - from)) p out.old }
+    ensures { Sends (stretch pass.now from (length pass.now.plane.now - from)) p out.old out.new result }
 {
     let mut q = p;
-    for i in from..plane.len() {
-        if mask[i] != c {
+    for (z, class) in pass.plane[from..].iter().zip(&pass.mask[from..]) {
+        if *class != pass.class {
             continue;
         }
-        let z = plane[i];
-        q = put_code(out, q, z, t);
+        q = send(out, q, gives(*z, pass.t, 1));
     }
     q
 }
 
-// Writes what the 64 coefficients from `from` on give to plane t, where the plane may end before them.
-fn write_chunk(
-    out: &mut [u8],
-    plane: &[i32],
-    mask: &[u8],
-    c: u8,
-    t: u64,
-    from: usize,
-    p: usize,
-) -> usize
-    requires t_bound { (t < 32) × (from ≤ 16781312) × PassReady mask.now plane.now c }
-    requires room { Room (share mask.now t plane.now c from 64) p out.old }
-    ensures { Sends (share mask.now t plane.now c from 64) p out.old out.new result }
+// Writes what the 64 coefficients from `from` on give, where the plane may end before them.
+fn write_chunk(out: &mut [u8], pass: &Pass, from: usize, p: usize) -> usize
+    requires within { Sound pass.now × (from ≤ 16781312) }
+    requires room { Room (stretch pass.now from 64) p out.old }
+    ensures { Sends (stretch pass.now from 64) p out.old out.new result }
 {
-    if from + 64 <= plane.len() {
-        return write_blocks(out, plane, mask, c, t, from, p);
+    if from + 64 <= pass.plane.len() {
+        return write_blocks(out, pass, from, p);
     }
-    write_rest(out, plane, mask, c, t, from, p)
+    if from < pass.plane.len() {
+        return write_rest(out, pass, from, p);
+    }
+    p
 }
 
-// Writes what the 4,096 coefficients from `from` on give to plane t: of each 64 only if their flag in `word` is 1.
-fn write_word(
-    out: &mut [u8],
-    plane: &[i32],
-    mask: &[u8],
-    word: u64,
-    c: u8,
-    t: u64,
-    from: usize,
-    p: usize,
-) -> usize
-    requires t_bound { (t < 32) × (from ≤ 16777216) × PassReady mask.now plane.now c × Held (class mask.now c) from word }
-    requires room { Room (share mask.now t plane.now c from 4096) p out.old }
-    ensures { Sends (share mask.now t plane.now c from 4096) p out.old out.new result }
+// Writes what the 4,096 coefficients from `from` on give: of each 64 only if their flag in `word` is 1.
+fn write_word(out: &mut [u8], pass: &Pass, word: u64, from: usize, p: usize) -> usize
+    requires within { Sound pass.now × (from ≤ 16777216) × Held (class pass.now.mask.now pass.now.class) from word }
+    requires room { Room (stretch pass.now from 4096) p out.old }
+    ensures { Sends (stretch pass.now from 4096) p out.old out.new result }
 {
     let mut q = p;
     for j in 0..64 {
         if (word >> (63 - j)) % 2 == 0 {
             continue;
         }
-        q = write_chunk(out, plane, mask, c, t, from + 64 * j, q);
+        q = write_chunk(out, pass, from + 64 * j, q);
     }
     q
 }
 
-// Writes plane t of the coefficients of class c, from place p on, by the flags that say where they lie.
-fn write_pass(
-    out: &mut [u8],
-    plane: &[i32],
-    mask: &[u8],
-    index: &[u64],
-    c: u8,
-    t: u64,
-    p: usize,
-) -> usize
-    requires t_bound { (t < 32) × PassReady mask.now plane.now c × (length index.now ≡ 4096) × Indexed (class mask.now c) index.now }
-    requires room { Room (pass_bits (one_plane (class mask.now c) t) (cell plane.now) (length plane.now)) p out.old }
-    ensures { Sends (pass_bits (one_plane (class mask.now c) t) (cell plane.now) (length plane.now)) p out.old out.new result }
+// Writes a pass, from place p on, by the flags that say where the coefficients of its class lie.
+fn write_pass(out: &mut [u8], pass: &Pass, index: &[u64], p: usize) -> usize
+    requires within { Sound pass.now × (length index.now ≡ 4096) × Indexed (class pass.now.mask.now pass.now.class) index.now }
+    requires room { Room (whole_pass pass.now) p out.old }
+    ensures { Sends (whole_pass pass.now) p out.old out.new result }
 {
-    let words = members::words(plane.len());
+    let words = members::words(pass.plane.len());
     let mut q = p;
-    for k in 0..words {
-        let word = index[k];
-        if word == 0 {
+    for (k, word) in index[..words].iter().enumerate() {
+        if *word == 0 {
             continue;
         }
-        q = write_word(out, plane, mask, word, c, t, 4096 * k, q);
+        q = write_word(out, pass, *word, 4096 * k, q);
     }
     q
 }
@@ -334,15 +260,20 @@ pub fn write_planes(out: &mut [u8], plane: &[i32], mask: &[u8], c: u8, top: u64,
     let mut index = [0u64; 4096];
     members::find(mask, c, &mut index);
     let mut q = p;
-    let mut t = top;
-    while t > 0 {
-        t -= 1;
-        q = write_pass(out, plane, mask, &index, c, t, q);
+    for t in (0..top as u32).rev() {
+        let pass = Pass {
+            plane,
+            mask,
+            class: c,
+            t,
+        };
+        q = write_pass(out, &pass, &index, q);
     }
     q
 }
 
-// The same, of few coefficients of a large plane: they are collected once, and the passes go over their list.
+// The same, of few coefficients of a large plane: they are collected once, and the passes go over their list. Not one with the reader's
+// `read_few`, which fills a list and puts it back: the two share the two arrays alone.
 fn write_few(out: &mut [u8], plane: &[i32], mask: &[u8], c: u8, top: u64, p: usize) -> usize
     requires top_bound { (top ≤ 32) × PassReady mask.now plane.now c × (count (length plane.now) (class mask.now c) ≤ 65536) }
     requires room { Room (part mask.now top plane.now c) p out.old }

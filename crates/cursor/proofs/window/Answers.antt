@@ -1,10 +1,8 @@
 -- `cursor::window` gathers the bits of 8 bytes. Assumes nothing.
+use mathlib.Core.Path.{◌∙◌}
 use native.Mathlib.Omega.{arith}
-use Rattle.cursor.proofs.Windows.{both_halves}
+use Rattle.cursor.proofs.Windows.{eight_bytes}
 use Rattle.cursor.proofs.window.Goals as goal
 
-pub overflow_add-result : goal.overflow_add-result
-overflow_add-result c = let h = both_halves _ _ c.half.ensures c.half-2.ensures in omega arith
-
 pub returns : goal.returns
-returns c = let h = both_halves _ _ c.half.ensures c.half-2.ensures in omega arith
+returns c = c.from_be_bytes.ensures ∙ omega (arith, eight_bytes c.args.body.now c.args.k (λ i. (c.type_inv.body i).fits))

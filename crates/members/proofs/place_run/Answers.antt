@@ -1,42 +1,33 @@
 use mathlib.Core.Path.{◌≡◌, ◌∙◌}
 use mathlib.Core.Bool.{true}
-use Prim.Native.Nat.{◌<◌}
+use Prim.Native.Nat.{◌+◌}
+use native.Mathlib.Nat.{add_assoc}
 use native.Mathlib.Omega.{arith}
 use mir.Syntax.{w32}
 use mir.Facts.{to_z_pos}
-use lib.ListN.{length, length-set}
-use Rattle.line.specs.Cells.{count}
-use Rattle.line.proofs.Counts.{count-le}
+use lib.ListN.{length-set}
 use Rattle.bitplane.specs.Body.{class}
-use Rattle.bitplane.proofs.Classes.{class_on, class_off}
-use Rattle.members.proofs.Collection.{collected_skip, member_fits, into_list}
+use Rattle.members.proofs.Collection.{collected_skip, into_list}
+use Rattle.members.proofs.Parts.{part_on, part_off, part_fits}
 use Rattle.members.proofs.place_run.Goals as goal
 
-pub loop-i-preserved-then-mask-i : goal.loop-i-preserved-then-mask-i
-loop-i-preserved-then-mask-i c = let l = c.loop-i in (omega arith, l.invariant.1, collected_skip (class_off _ _ _ (omega (arith, c.requires.from_le_to.2.over)) c.if-mask-i.true) l.invariant.2)
+pub loop-k-preserved-then-class-c : goal.loop-k-preserved-then-class-c
+loop-k-preserved-then-class-c c = let l = c.loop-k in let r = c.requires.from_le_to in
+    rw (← add_assoc) (l.invariant.0, collected_skip (part_off _ _ c.args.from c.args.to l.k (omega arith) (omega arith) c.if-class-c.true) l.invariant.1)
 
 pub offset_bounds-list-m : goal.offset_bounds-list-m
-offset_bounds-list-m c = let member : class c.args.mask.now c.args.c c.loop-i.i ≡ true = class_on _ _ _ (omega arith) c.if-mask-i.false in
-    let fits : c.loop-i.m < count (length c.args.mask.now) (class c.args.mask.now c.args.c) = member_fits _ member (omega arith) c.loop-i.invariant.2 in
-    let small : c.loop-i.m < 16777216 = omega (arith, fits, count-le (length c.args.mask.now) (class c.args.mask.now c.args.c), c.requires.from_le_to.2.size) in
-    omega (arith, small)
+offset_bounds-list-m c = let l = c.loop-k in let r = c.requires.from_le_to in
+    omega (arith, part_fits c.args.from c.args.to l.k r.2 (omega arith) (omega (arith, r.2.over)) c.if-class-c.false l.invariant.1)
 
 pub bounds-list-m : goal.bounds-list-m
-bounds-list-m c = let member : class c.args.mask.now c.args.c c.loop-i.i ≡ true = class_on _ _ _ (omega arith) c.if-mask-i.false in
-    let fits : c.loop-i.m < count (length c.args.mask.now) (class c.args.mask.now c.args.c) = member_fits _ member (omega arith) c.loop-i.invariant.2 in
-    omega (arith, fits, c.requires.from_le_to.2.room, c.loop-i.invariant.1)
+bounds-list-m c = let l = c.loop-k in let r = c.requires.from_le_to in
+    omega (arith, part_fits c.args.from c.args.to l.k r.2 (omega arith) (omega (arith, r.2.over)) c.if-class-c.false l.invariant.1, l.invariant.0)
 
 pub overflow_add-m : goal.overflow_add-m
-overflow_add-m c = let member : class c.args.mask.now c.args.c c.loop-i.i ≡ true = class_on _ _ _ (omega arith) c.if-mask-i.false in
-    let fits : c.loop-i.m < count (length c.args.mask.now) (class c.args.mask.now c.args.c) = member_fits _ member (omega arith) c.loop-i.invariant.2 in
-    let small : c.loop-i.m < 16777216 = omega (arith, fits, count-le (length c.args.mask.now) (class c.args.mask.now c.args.c), c.requires.from_le_to.2.size) in
-    omega (arith, small)
+overflow_add-m c = let l = c.loop-k in let r = c.requires.from_le_to in
+    omega (arith, part_fits c.args.from c.args.to l.k r.2 (omega arith) (omega (arith, r.2.over)) c.if-class-c.false l.invariant.1)
 
-pub loop-i-preserved : goal.loop-i-preserved
-loop-i-preserved c = let member : class c.args.mask.now c.args.c c.loop-i.i ≡ true = class_on _ _ _ (omega arith) c.if-mask-i.false in
-    let fits : c.loop-i.m < count (length c.args.mask.now) (class c.args.mask.now c.args.c) = member_fits _ member (omega arith) c.loop-i.invariant.2 in
-    let l = c.loop-i in (
-      omega arith,
-      length-set l.list l.m _ ∙ l.invariant.1,
-      into_list member l.invariant.2.many l.list (omega (arith, fits, c.requires.from_le_to.2.room, l.invariant.1)) (to_z_pos w32 (omega (arith, c.requires.from_le_to.2.size))) l.invariant.2,
-    )
+pub loop-k-preserved : goal.loop-k-preserved
+loop-k-preserved c = let l = c.loop-k in let r = c.requires.from_le_to in
+    let member : class c.args.mask.now c.args.c (c.args.from + l.k) ≡ true = part_on _ _ c.args.from c.args.to l.k (omega arith) (omega arith) c.if-class-c.false in
+    rw (← add_assoc) (length-set l.list l.m _ ∙ l.invariant.0, into_list member l.invariant.1.many l.list (omega (arith, part_fits c.args.from c.args.to l.k r.2 (omega arith) (omega (arith, r.2.over)) c.if-class-c.false l.invariant.1, l.invariant.0)) (to_z_pos w32 (omega (arith, r.2.size))) l.invariant.1)

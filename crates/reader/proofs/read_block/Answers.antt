@@ -17,16 +17,16 @@ pub returns-then-members-eq0 : goal.returns-then-members-eq0
 returns-then-members-eq0 c = block_none _ _ _ 16 (sym c.among-members.ensures ∙ c.if-members-eq0.true) c.requires.2.ready.place
 
 pub digits-requires : goal.digits-requires
-digits-requires c = let few : c.among-members.result ≤ 16 = let s = c.args in omega (arith, c.among-members.ensures, count-le 16 (behind s.i (class s.mask.now s.c))) in
+digits-requires c = let few : c.among-members.result ≤ 16 = let s = c.args in omega (arith, c.among-members.ensures, count-le 16 (behind s.i (class s.pass.now.mask.now s.pass.now.class))) in
     (omega arith, omega (arith, few), omega (arith, few))
 
 pub overflow_add-result : goal.overflow_add-result
-overflow_add-result c = let few : c.among-members.result ≤ 16 = let s = c.args in omega (arith, c.among-members.ensures, count-le 16 (behind s.i (class s.mask.now s.c))) in
+overflow_add-result c = let few : c.among-members.result ≤ 16 = let s = c.args in omega (arith, c.among-members.ensures, count-le 16 (behind s.i (class s.pass.now.mask.now s.pass.now.class))) in
     omega (arith, few, c.requires.2.ready.small)
 
 pub returns-then-digits-eq0 : goal.returns-then-digits-eq0
-returns-then-digits-eq0 c = let few : c.among-members.result ≤ 16 = let s = c.args in omega (arith, c.among-members.ensures, count-le 16 (behind s.i (class s.mask.now s.c))) in
-    let next : let s = c.args in c.digits.result ≡ gathered (bit_at s.body.now) s.p c.among-members.result = let s = c.args in let e : 8 * (s.p / 8) + s.p % 8 ≡ s.p = omega arith in
+returns-then-digits-eq0 c = let few : c.among-members.result ≤ 16 = let s = c.args in omega (arith, c.among-members.ensures, count-le 16 (behind s.i (class s.pass.now.mask.now s.pass.now.class))) in
+    let next : let s = c.args in c.digits.result ≡ gathered (bit_at s.pass.now.body.now) s.p c.among-members.result = let s = c.args in let e : 8 * (s.p / 8) + s.p % 8 ≡ s.p = omega arith in
     rw e at (window_digits _ _ (s.p % 8) c.among-members.result c.window-x.ensures (omega (arith, few)) c.digits.ensures) in
     block_silent _ _ _ 16 c.among-members.ensures (sym next ∙ c.if-digits-eq0.true) (omega (arith, few))
 

@@ -6,6 +6,3 @@ use Rattle.reader.proofs.read_planes.Given as goal
 
 abbrev pub invariant-loop-t : goal.invariant-loop-t
 invariant-loop-t l = Left l.body (class l.mask l.c) (length l.initial.plane) l.top l.initial.plane l.p l.t l.plane l.q
-
-abbrev pub decreases-loop-t : goal.decreases-loop-t
-decreases-loop-t l = l.t

@@ -2,9 +2,8 @@
 use mathlib.Core.Path.{◌≡◌}
 use Prim.Native.Nat.{◌+◌, ◌≤◌}
 use lib.ListN.{length}
-use Rattle.bitplane.specs.Body.{class, one_plane}
-use Rattle.reader.specs.Reads.{Continues}
+use Rattle.reader.specs.Passes.{Goes}
 use Rattle.reader.proofs.read_rest.Given as goal
 
 abbrev pub invariant-loop-i : goal.invariant-loop-i
-invariant-loop-i l = (l.from ≤ l.i) × (l.i ≤ l.from + 16) × (length l.plane ≡ length l.initial.plane) × Continues l.body (one_plane (class l.mask l.c) l.t) l.initial.plane l.p l.from l.plane l.q l.i
+invariant-loop-i l = (l.from ≤ l.i) × (l.i ≤ l.from + 16) × (length l.plane ≡ length l.initial.plane) × Goes l.pass l.initial.plane l.p l.from l.plane l.q l.i

@@ -1,7 +1,7 @@
 -- `writer::gather` gathers what 16 coefficients give to a plane. Assumes nothing.
-use Prim.Native.Nat.{◌≤◌}
-use Rattle.writer.specs.Written.{Digits, share}
+use Rattle.writer.specs.Written.{Digits}
+use Rattle.writer.specs.Passes.{stretch}
 use Rattle.writer.proofs.gather.Given as goal
 
-abbrev pub invariant-loop-n : goal.invariant-loop-n
-invariant-loop-n l = (l.n ≤ 16) × Digits (share l.mask l.t l.plane l.c l.i l.n) l.number l.count
+abbrev pub invariant-loop-digits : goal.invariant-loop-digits
+invariant-loop-digits l = Digits (stretch l.pass l.i l.digits-index) l.number l.count

@@ -4,5 +4,5 @@ use lib.IntN.{nat_abs}
 use Rattle.line.specs.Cells.{cell}
 use Rattle.writer.proofs.high.Given as goal
 
-abbrev pub invariant-loop-j : goal.invariant-loop-j
-invariant-loop-j l = (l.j ≤ 16) × ((k : ℕ) → k < l.j → nat_abs (cell l.plane (l.i + k)) ≤ l.high)
+abbrev pub invariant-loop-z : goal.invariant-loop-z
+invariant-loop-z l = (k : ℕ) → k < l.z-index → nat_abs (cell l.pass.plane.now (l.i + k)) ≤ l.high

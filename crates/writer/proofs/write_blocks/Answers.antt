@@ -8,7 +8,7 @@ pub loop-b-init : goal.loop-b-init
 loop-b-init c = (omega arith, refl, sends_start _ _ _ _)
 
 pub write_block-q-requires : goal.write_block-q-requires
-write_block-q-requires c = let l = c.loop-b in record { t_bound = (c.requires.t_bound.0, omega arith, c.requires.t_bound.2); room = room_next _ _ c.args.from (16 * l.b) 16 (omega arith) (omega arith) l.invariant.2 l.invariant.1 c.requires.room }
+write_block-q-requires c = let l = c.loop-b in record { within = (c.requires.within.0, omega arith); room = room_next _ _ c.args.from (16 * l.b) 16 (omega arith) (omega arith) l.invariant.2 l.invariant.1 c.requires.room }
 
 pub loop-b-preserved : goal.loop-b-preserved
 loop-b-preserved c = let l = c.loop-b in let w = c.write_block-q in

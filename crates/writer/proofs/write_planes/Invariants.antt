@@ -8,6 +8,3 @@ use Rattle.writer.proofs.write_planes.Given as goal
 
 abbrev pub invariant-loop-t : goal.invariant-loop-t
 invariant-loop-t l = (l.t ≤ l.top) × Rest (class l.mask l.c) (cell l.plane) (length l.plane) l.top l.p l.initial.out l.t l.q l.out
-
-abbrev pub decreases-loop-t : goal.decreases-loop-t
-decreases-loop-t l = l.t

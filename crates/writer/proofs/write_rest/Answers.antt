@@ -1,40 +1,88 @@
-use mathlib.Core.Path.{◌≡◌, refl, ◌∙◌}
+use mathlib.Core.Path.{◌≡◌, refl, sym, ap, ◌∙◌}
+use mathlib.Core.Bool.{true}
+use mathlib.Core.List.{[], ◌∷◌, ◌++◌}
 use Prim.Native.Nat.{◌+◌, ◌-◌}
 use native.Mathlib.Omega.{arith}
-use lib.ListN.{length}
 use mir.Syntax.{w32}
 use mir.Val.{to_z, of_z}
 use mir.Facts.{to_z-of_z}
+use lib.IntN.{ℤ, pos}
+use lib.ListN.{length, take, drop, length-drop}
 use Rattle.std.proofs.Common.{FitsSigned, rules}
+use Rattle.std.proofs.lemmas.List.{length_push, take_all}
 use Rattle.line.specs.Cells.{cell}
 use Rattle.bitplane.specs.Body.{class, one_plane, code}
+use Rattle.bitplane.proofs.Bytes.{code_binary}
 use Rattle.bitplane.proofs.Classes.{class_on, class_off}
-use Rattle.writer.specs.Written.{run}
+use Rattle.members.proofs.Parts.{left_first, both_ended}
+use Rattle.writer.specs.Written.{Digits, run}
+use Rattle.writer.proofs.Codes.{code-length}
+use Rattle.writer.proofs.Passes.{room_fits, puts_sends}
 use Rattle.writer.proofs.Runs.{run_one, sends_start, sends_next, sends_skip, room_next}
 use Rattle.writer.proofs.write_rest.Goals as goal
 
-pub loop-i-init : goal.loop-i-init
-loop-i-init c = let f = c.args.from in let e : f - f ≡ 0 = omega arith in (omega arith, omega arith, refl, rw e (sends_start _ _ f _))
+pub loop-z-init : goal.loop-z-init
+loop-z-init c = let s = c.args.pass.now in let i = c.args.from in
+    let first : c.into_iter-z-iterator.result.a.rest.now ≡ take (length s.plane.now - i) (drop i s.plane.now) = search rules in
+    let second : c.into_iter-z-iterator.result.b.rest.now ≡ take (length s.mask.now - i) (drop i s.mask.now) = search rules in
+    let e : i + 0 ≡ i = omega arith in
+    record { kept = refl; within = omega arith; cells = rw e (first ∙ take_all _ (drop i s.plane.now) (omega (arith, length-drop i s.plane.now))); classes = rw e (second ∙ take_all _ (drop i s.mask.now) (omega (arith, length-drop i s.mask.now))); sent = sends_start _ _ _ _ }
 
-pub loop-i-preserved-then-mask-i : goal.loop-i-preserved-then-mask-i
-loop-i-preserved-then-mask-i c = let l = c.loop-i in (
-  omega arith,
-  omega arith,
-  l.invariant.2,
-  sends_skip _ _ {j = l.i} c.args.from (l.i - c.args.from) 1 (omega arith) (omega arith)
-      (λ d h. let e : l.i + d ≡ l.i = omega arith in rw e (class_off _ _ _ (omega arith) c.if-mask-i.true)) l.invariant.3,
-)
+pub loop-z-preserved-then-class-pass : goal.loop-z-preserved-then-class-pass
+loop-z-preserved-then-class-pass c = let s = c.args.pass.now in let i = c.args.from in let l = c.loop-z in let n = length l.yielded in
+    let item : l.z-iterator.a.rest.now ≡ c.in-Some.z.now ∷ c.next.new.self.a.rest.now = search rules in
+    let side : l.z-iterator.b.rest.now ≡ c.in-Some.class.now ∷ c.next.new.self.b.rest.now = search rules in
+    let x = left_first s.plane.now (i + n) (pos 0) (sym l.invariant.cells ∙ item) in
+    let y = left_first s.mask.now (i + n) 0 (sym l.invariant.classes ∙ side) in
+    let e : length (l.yielded ++ (c.in-Some.z, c.in-Some.class) ∷ []) ≡ n + 1 = length_push l.yielded _ in
+    let g : i + (n + 1) ≡ i + n + 1 = omega arith in
+    rw (e, g) (record {
+      kept = l.invariant.kept;
+      within = omega (arith, x.0);
+      cells = x.2;
+      classes = y.2;
+      sent = sends_skip _ _ {j = i + n} i n 1 refl refl (λ d h. let j : i + n + d ≡ i + n = omega arith in rw j (class_off _ _ _ y.0 (λ q. c.if-class-pass.true (y.1 ∙ q)))) l.invariant.sent;
+    })
 
-pub put_code-q-requires : goal.put_code-q-requires
-put_code-q-requires c = let one : let i = c.loop-i.i in
-    run (one_plane (class c.args.mask.now c.args.c) c.args.t) (cell c.args.plane.now) i 1 ≡ code c.args.t (to_z w32 (of_z w32 (cell c.args.plane.now i))) = let f : FitsSigned w32 (cell c.args.plane.now c.loop-i.i) = search rules in run_one _ _ _ (class_on _ _ _ (omega arith) c.if-mask-i.false) (to_z-of_z {w = w32} f) in
-    let l = c.loop-i in record { t_bound = c.requires.t_bound.0; room = rw one at (room_next _ _ {j = l.i} c.args.from (l.i - c.args.from) 1 (omega arith) (omega arith) l.invariant.3 l.invariant.2 c.requires.room) }
+pub send-q-requires : goal.send-q-requires
+send-q-requires c = let s = c.args.pass.now in let i = c.args.from in let l = c.loop-z in let n = length l.yielded in
+    let item : l.z-iterator.a.rest.now ≡ c.in-Some.z.now ∷ c.next.new.self.a.rest.now = search rules in
+    let side : l.z-iterator.b.rest.now ≡ c.in-Some.class.now ∷ c.next.new.self.b.rest.now = search rules in
+    let x = left_first s.plane.now (i + n) (pos 0) (sym l.invariant.cells ∙ item) in
+    let y = left_first s.mask.now (i + n) 0 (sym l.invariant.classes ∙ side) in
+    let z : ℤ = to_z w32 (of_z w32 c.in-Some.z.now) in
+    let f : FitsSigned w32 c.in-Some.z.now = search rules in
+    let same : z ≡ cell s.plane.now (i + n) = to_z-of_z {w = w32} f ∙ x.1 in
+    let one : run (one_plane (class s.mask.now s.class) s.t) (cell s.plane.now) (i + n) 1 ≡ code s.t z = run_one _ _ _ (class_on _ _ _ y.0 (sym y.1 ∙ c.if-class-pass.false)) same in
+    let digits : Digits (code s.t z) c.gives.result.number c.gives.result.count = c.gives.ensures in
+    let m = code-length s.t z in
+    room_fits (code_binary true s.t z) digits m.0 (omega arith) (rw one at (room_next _ _ {j = i + n} i n 1 refl (omega (arith, x.0)) l.invariant.sent l.invariant.kept c.requires.room))
 
-pub loop-i-preserved : goal.loop-i-preserved
-loop-i-preserved c = let one : let i = c.loop-i.i in
-    run (one_plane (class c.args.mask.now c.args.c) c.args.t) (cell c.args.plane.now) i 1 ≡ code c.args.t (to_z w32 (of_z w32 (cell c.args.plane.now i))) = let f : FitsSigned w32 (cell c.args.plane.now c.loop-i.i) = search rules in run_one _ _ _ (class_on _ _ _ (omega arith) c.if-mask-i.false) (to_z-of_z {w = w32} f) in
-    let l = c.loop-i in let w = c.put_code-q in
-    (omega arith, omega arith, w.auto.out ∙ l.invariant.2, sends_next _ _ {j = l.i} c.args.from (l.i - c.args.from) 1 (omega arith) (omega arith) l.invariant.3 (rw one w.ensures))
+pub loop-z-preserved : goal.loop-z-preserved
+loop-z-preserved c = let s = c.args.pass.now in let i = c.args.from in let l = c.loop-z in let n = length l.yielded in
+    let item : l.z-iterator.a.rest.now ≡ c.in-Some.z.now ∷ c.next.new.self.a.rest.now = search rules in
+    let side : l.z-iterator.b.rest.now ≡ c.in-Some.class.now ∷ c.next.new.self.b.rest.now = search rules in
+    let x = left_first s.plane.now (i + n) (pos 0) (sym l.invariant.cells ∙ item) in
+    let y = left_first s.mask.now (i + n) 0 (sym l.invariant.classes ∙ side) in
+    let z : ℤ = to_z w32 (of_z w32 c.in-Some.z.now) in
+    let f : FitsSigned w32 c.in-Some.z.now = search rules in
+    let same : z ≡ cell s.plane.now (i + n) = to_z-of_z {w = w32} f ∙ x.1 in
+    let one : run (one_plane (class s.mask.now s.class) s.t) (cell s.plane.now) (i + n) 1 ≡ code s.t z = run_one _ _ _ (class_on _ _ _ y.0 (sym y.1 ∙ c.if-class-pass.false)) same in
+    let digits : Digits (code s.t z) c.gives.result.number c.gives.result.count = c.gives.ensures in
+    let e : length (l.yielded ++ (c.in-Some.z, c.in-Some.class) ∷ []) ≡ n + 1 = length_push l.yielded _ in
+    let g : i + (n + 1) ≡ i + n + 1 = omega arith in
+    let w = c.send-q in
+    rw (e, g) (record {
+      kept = w.auto.out ∙ l.invariant.kept;
+      within = omega (arith, x.0);
+      cells = x.2;
+      classes = y.2;
+      sent = sends_next _ _ {j = i + n} i n 1 refl refl l.invariant.sent (rw (one, w.ensures.place) (puts_sends (code_binary true s.t z) digits w.ensures.puts));
+    })
 
 pub returns : goal.returns
-returns c = let f = c.args.from in let n = length c.args.plane.now in let e : c.loop-i.i - f ≡ n - f = omega arith in rw e at c.loop-i.invariant.3
+returns c = let s = c.args.pass.now in let i = c.args.from in let l = c.loop-z in let n = length l.yielded in
+    let alike : length l.z-iterator.a.rest.now ≡ length l.z-iterator.b.rest.now = ap length l.invariant.cells ∙ length-drop (i + n) s.plane.now ∙ omega (arith, c.requires.within.0.ready.over, length-drop (i + n) s.mask.now, ap length l.invariant.classes) in
+    let done = both_ended c.in-None.ensures.steps alike in
+    let e : n ≡ length s.plane.now - i = omega (arith, done, ap length l.invariant.cells, length-drop (i + n) s.plane.now, l.invariant.within) in
+    rw e at l.invariant.sent

@@ -2,8 +2,9 @@
 use mathlib.Core.Path.{◌≡◌}
 use Prim.Native.Nat.{◌*◌, ◌≤◌}
 use lib.ListN.{length}
-use Rattle.writer.specs.Written.{Sends, share}
+use Rattle.writer.specs.Written.{Sends}
+use Rattle.writer.specs.Passes.{stretch}
 use Rattle.writer.proofs.write_word.Given as goal
 
 abbrev pub invariant-loop-j : goal.invariant-loop-j
-invariant-loop-j l = (l.j ≤ 64) × (length l.out ≡ length l.initial.out) × Sends (share l.mask l.t l.plane l.c l.from (64 * l.j)) l.p l.initial.out l.out l.q
+invariant-loop-j l = (l.j ≤ 64) × (length l.out ≡ length l.initial.out) × Sends (stretch l.pass l.from (64 * l.j)) l.p l.initial.out l.out l.q
