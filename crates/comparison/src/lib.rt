@@ -19,7 +19,13 @@ fn bad_sides(w: usize, h: usize) -> bool
 
 // Samples of at most 10 bits. Refusals, in order: 1, 4, 5, 6.
 #[tactic(auto, unfolding(refusal::specs::Numbers::first))]
-fn transform(kernel: usize, w: usize, h: usize, samples: &[u16], plane: &mut [i32]) -> Result<(), Refusal>
+fn transform(
+    kernel: usize,
+    w: usize,
+    h: usize,
+    samples: &[u16],
+    plane: &mut [i32],
+) -> Result<(), Refusal>
     ensures result_value { answer_number result ≡ first (transform_tests kernel w h samples.now (length plane.old)) }
     ensures fact { Result (pos 0) (accepted (transform_tests kernel w h samples.now (length plane.old))) (coefficient kernel w h samples.now) plane.old plane.new }
 {

@@ -9,7 +9,7 @@ ghost use Rattle.header_reader.specs.Answers.{header_for};
 ghost use Rattle.decoder.specs.Inner.{Taken, Masked, Found, Answered};
 ghost use Rattle.decoder.specs.Answers.{numbers_of};
 
-use header_reader::{Header, Headed};
+use header_reader::{Headed, Header};
 use refusal::{Refusal, refuse};
 
 // What was found in a body: the number of marks, the region mark, if the marked part is whole, and q, the planes of the unmarked that were not

@@ -12,13 +12,7 @@ use refusal::{Refusal, refuse};
 // Fills the third lent buffer with the marks of the other two, for a picture of w by h samples.
 // Refusals, in order: 4, 5, 9. Under a refusal the third holds what it held.
 #[tactic(auto, unfolding(refusal::specs::Numbers::first))]
-pub fn join(
-    w: usize,
-    h: usize,
-    one: &[u8],
-    other: &[u8],
-    joined: &mut [u8],
-) -> Result<(), Refusal>
+pub fn join(w: usize, h: usize, one: &[u8], other: &[u8], joined: &mut [u8]) -> Result<(), Refusal>
     ensures result_value { answer_number result ≡ first (join_tests w h one.now other.now (length joined.old)) }
     ensures fact { Result 0 (accepted (join_tests w h one.now other.now (length joined.old))) (join_byte one.now other.now) joined.old joined.new }
 {

@@ -38,7 +38,10 @@ pub fn show_level(
     refuse(refusal::bad_depth(depth), Refusal::Depth)?;
     refuse(refusal::bad_size(w, h), Refusal::Size)?;
     refuse(plane.len() != w * h, Refusal::Length)?;
-    refuse(bad_area(r, w, h, undone.len(), shown.len()), Refusal::Length)?;
+    refuse(
+        bad_area(r, w, h, undone.len(), shown.len()),
+        Refusal::Length,
+    )?;
     refuse(refusal::bad_magnitude(plane), Refusal::Magnitude)?;
     show_area(chosen, levels, r, depth, w, h, plane, undone, shown);
     Ok(())

@@ -15,7 +15,13 @@ use refusal::{Refusal, refuse};
 // Brings the undone numbers of a picture of w by h samples into the range of `depth` bits.
 // Refusals, in order: 3, 4, 5. Under a refusal the shown samples hold what they held.
 #[tactic(auto, unfolding(refusal::specs::Numbers::first))]
-pub fn show(depth: usize, w: usize, h: usize, undone: &[i32], shown: &mut [u16]) -> Result<(), Refusal>
+pub fn show(
+    depth: usize,
+    w: usize,
+    h: usize,
+    undone: &[i32],
+    shown: &mut [u16],
+) -> Result<(), Refusal>
     ensures result_value { answer_number result ≡ first (show_tests depth w h (length undone.now) (length shown.old)) }
     ensures fact { Result 0 (accepted (show_tests depth w h (length undone.now) (length shown.old))) (λ i. in_range depth (get_or undone.now i (pos 0))) shown.old shown.new }
 {
