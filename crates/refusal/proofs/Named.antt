@@ -1,6 +1,6 @@
 -- No refusal has the number 0, and only 11 has a needed length. Assumes nothing.
 use mathlib.Core.Path.{◌≡◌, refl, sym}
-use mathlib.Core.Bool.{true, false, false≢true}
+use mathlib.Core.Bool.{false, false≢true}
 use lib.Dec.{eqb}
 use Rattle.refusal.specs.Numbers.{refusal_number, needed_length}
 use Rattle.refusal.specs.declared.Refusal.{Refusal}
