@@ -266,6 +266,7 @@ pub fn bad_filling(body: &[u8], end: usize) -> bool
     if (end + 7) / 8 < body.len() {
         return true;
     }
+    // By place: each of the at most 7 bits is taken through the cursor.
     for p in end..bits {
         if coefficient::bit(body, p) != 0 {
             return true;

@@ -119,7 +119,7 @@ fn any_bad(rectangles: &[[u32; 4]], w: usize, h: usize) -> bool
         .any(|rectangle| Rectangle::from(*rectangle).is_bad(w, h))
 }
 
-// Clears the region, and draws each rectangle.
+// Clears the region, and draws each rectangle. Beside `draw_placed`, a walk of its own: one over a closure would state both contracts again.
 pub fn draw(numbers: &[u32], w: usize, region: &mut [u8])
     requires { Inside numbers.now w (length region.old) }
     ensures { Result 0 true (region_byte numbers.now w) region.old region.new }
