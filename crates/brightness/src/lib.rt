@@ -56,11 +56,12 @@ fn measure(w: usize, picture: &[u16], region: &[u8]) -> Option<Found>
     let mut number: u64 = 0;
     let mut sum: u64 = 0;
     for (samples, bytes) in picture.chunks_exact(w).zip(region.chunks_exact(w)) {
+        sum += u64::from(row_sum(samples, bytes));
+        number += u64::from(row_number(bytes));
+        // Last in its row: asked before the two sums it costs a small picture up to a sixth of its time.
         if row_bad(bytes) {
             return None;
         }
-        number += u64::from(row_number(bytes));
-        sum += u64::from(row_sum(samples, bytes));
     }
     Some(Found { number, sum })
 }
