@@ -10,6 +10,16 @@ ghost use Rattle.header.specs.Answers.{numbers_of};
 
 use refusal::{Refusal, refuse};
 
+// A shot's setting as numbers, any numbers.
+#[derive(Clone, Copy)]
+pub struct Setting {
+    pub kernel: usize,
+    pub levels: usize,
+    pub depth: usize,
+    pub width: usize,
+    pub height: usize,
+}
+
 // The numbers of one, two and four bytes at a place.
 pub fn one_byte(stream: &[u8], at: usize) -> usize
     requires { at + 1 ≤ length stream.now }
@@ -131,27 +141,17 @@ fn put_rectangles(out: &mut [u8], numbers: &[u32])
 }
 
 // Writes the header of a stream of `total` bytes.
-pub fn write_header(
-    out: &mut [u8],
-    kernel: usize,
-    levels: usize,
-    depth: usize,
-    w: usize,
-    h: usize,
-    numbers: &[u32],
-    planes: usize,
-    total: usize,
-)
-    requires { Fit (record { kernel = kernel; levels = levels; depth = depth; width = w; height = h; planes = planes; rectangles = numbers.now }) total out.old }
-    ensures { Headed (record { kernel = kernel; levels = levels; depth = depth; width = w; height = h; planes = planes; rectangles = numbers.now }) total out.old out.new }
+pub fn write_header(out: &mut [u8], setting: Setting, numbers: &[u32], planes: usize, total: usize)
+    requires { Fit (record { kernel = setting.kernel; levels = setting.levels; depth = setting.depth; width = setting.width; height = setting.height; planes = planes; rectangles = numbers.now }) total out.old }
+    ensures { Headed (record { kernel = setting.kernel; levels = setting.levels; depth = setting.depth; width = setting.width; height = setting.height; planes = planes; rectangles = numbers.now }) total out.old out.new }
 {
     put_four(out, 0, total - 4);
     put_byte(out, 4, 1);
-    put_byte(out, 5, kernel);
-    put_byte(out, 6, levels);
-    put_byte(out, 7, depth);
-    put_two(out, 8, w);
-    put_two(out, 10, h);
+    put_byte(out, 5, setting.kernel);
+    put_byte(out, 6, setting.levels);
+    put_byte(out, 7, setting.depth);
+    put_two(out, 8, setting.width);
+    put_two(out, 10, setting.height);
     put_byte(out, 12, numbers.len() / 4);
     put_byte(out, 13, planes);
     put_rectangles(out, numbers);

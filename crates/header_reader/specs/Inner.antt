@@ -9,6 +9,7 @@ use Rattle.kernel.specs.declared.Kernel.{Kernel}
 use Rattle.kernel.specs.Kernels.{the_kernel}
 use Rattle.line.specs.Cells.{listed}
 use Rattle.refusal.specs.Numbers.{first}
+use Rattle.header.specs.declared.Setting.{Setting}
 use Rattle.header.specs.Header.{bad_header, bad_version}
 use Rattle.header.specs.Fields.{numbers, shot_of}
 use Rattle.shot.specs.Shots.{setting_tests}
@@ -16,13 +17,13 @@ use Rattle.shot.specs.Shots.{setting_tests}
 abbrev pub rectangle_array : List ℕ → ℕ → List ℕ
 rectangle_array l k = listed 128 (λ i. get_or (numbers (4 * k) l 14) i 0)
 
-pub record Set (l : List ℕ) (chosen : Kernel) (k J D W H : ℕ) : Type 0 where
+pub record Set (l : List ℕ) (chosen : Kernel) (s : Setting) : Type 0 where
   pub header : bad_header l ≡ false
   pub version : bad_version l ≡ false
-  pub kernel : k ≡ (shot_of l).kernel
-  pub levels : J ≡ (shot_of l).levels
-  pub depth : D ≡ (shot_of l).depth
-  pub width : W ≡ (shot_of l).width
-  pub height : H ≡ (shot_of l).height
-  pub chosen_is : chosen ≡ the_kernel k
-  pub setting : 0 ≡ first (setting_tests k J D W H)
+  pub kernel : s.kernel ≡ (shot_of l).kernel
+  pub levels : s.levels ≡ (shot_of l).levels
+  pub depth : s.depth ≡ (shot_of l).depth
+  pub width : s.width ≡ (shot_of l).width
+  pub height : s.height ≡ (shot_of l).height
+  pub chosen_is : chosen ≡ the_kernel s.kernel
+  pub setting : 0 ≡ first (setting_tests s.kernel s.levels s.depth s.width s.height)

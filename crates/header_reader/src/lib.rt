@@ -8,6 +8,7 @@ ghost use Rattle.codestream.specs.Reading.{shot_tests, header_tests, no_shot};
 ghost use Rattle.header_reader.specs.Answers.{header_for, headed_for};
 ghost use Rattle.header_reader.specs.Inner.{rectangle_array, Set};
 
+use header::Setting;
 use kernel::Kernel;
 use refusal::{Refusal, refuse};
 
@@ -40,13 +41,15 @@ pub fn read_header(stream: &[u8]) -> Result<Headed, Refusal>
 {
     refuse(header::bad_header(stream), Refusal::Header)?;
     refuse(header::bad_version(stream), Refusal::Version)?;
-    let kernel = header::one_byte(stream, 5);
-    let levels = header::one_byte(stream, 6);
-    let depth = header::one_byte(stream, 7);
-    let w = header::two_bytes(stream, 8);
-    let h = header::two_bytes(stream, 10);
-    let chosen = shot::take_setting(kernel, levels, depth, w, h)?;
-    header_set(chosen, stream, kernel, levels, depth, w, h)
+    let setting = Setting {
+        kernel: header::one_byte(stream, 5),
+        levels: header::one_byte(stream, 6),
+        depth: header::one_byte(stream, 7),
+        width: header::two_bytes(stream, 8),
+        height: header::two_bytes(stream, 10),
+    };
+    let chosen = shot::take_setting(setting)?;
+    header_set(chosen, stream, setting)
 }
 
 // A header of zeros.
@@ -81,16 +84,8 @@ fn rectangle_numbers(stream: &[u8], count: usize) -> [u32; 128]
 
 // The refusals behind those of the setting, and the header.
 #[tactic(auto, unfolding(refusal::specs::Numbers::first))]
-fn header_set(
-    chosen: Kernel,
-    stream: &[u8],
-    kernel: usize,
-    levels: usize,
-    depth: usize,
-    w: usize,
-    h: usize,
-) -> Result<Headed, Refusal>
-    requires { Set stream.now chosen kernel levels depth w h }
+fn header_set(chosen: Kernel, stream: &[u8], setting: Setting) -> Result<Headed, Refusal>
+    requires { Set stream.now chosen setting }
     ensures number { answer_number result ≡ first (shot_tests (shot_of stream.now)) }
     ensures headed { IfOk result (λ headed. headed ≡ headed_for (shot_of stream.now)) }
 {
@@ -99,7 +94,7 @@ fn header_set(
     let rectangles = rectangle_numbers(stream, count);
     let n = 4 * count;
     refuse(
-        region::bad_rectangles(&rectangles[..n], w, h),
+        region::bad_rectangles(&rectangles[..n], setting.width, setting.height),
         Refusal::Rectangle,
     )?;
     let planes = header::one_byte(stream, 13);
@@ -107,11 +102,11 @@ fn header_set(
     Ok(Headed {
         kernel: chosen,
         header: Header {
-            kernel: kernel,
-            levels: levels,
-            depth: depth,
-            width: w,
-            height: h,
+            kernel: setting.kernel,
+            levels: setting.levels,
+            depth: setting.depth,
+            width: setting.width,
+            height: setting.height,
             planes: planes,
             count: count,
             rectangles: rectangles,

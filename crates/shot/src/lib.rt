@@ -7,25 +7,23 @@ ghost use Rattle.refusal.specs.Numbers.{answer_number, first};
 ghost use Rattle.shot.specs.Inner.{Drawable};
 ghost use Rattle.shot.specs.Shots.{mask_bytes, setting_tests};
 
+use header::Setting;
 use kernel::Kernel;
 use refusal::{Refusal, refuse};
 
 // The kernel of a setting, or the first refusal of the setting. Refusals, in order: 1, 2, 3, 4.
 #[tactic(auto, unfolding(refusal::specs::Numbers::first))]
-pub fn take_setting(
-    kernel: usize,
-    levels: usize,
-    depth: usize,
-    w: usize,
-    h: usize,
-) -> Result<Kernel, Refusal>
-    ensures number { answer_number result ≡ first (setting_tests kernel levels depth w h) }
-    ensures chosen { IfOk result (λ chosen. chosen ≡ the_kernel kernel) }
+pub fn take_setting(setting: Setting) -> Result<Kernel, Refusal>
+    ensures number { answer_number result ≡ first (setting_tests setting.kernel setting.levels setting.depth setting.width setting.height) }
+    ensures chosen { IfOk result (λ chosen. chosen ≡ the_kernel setting.kernel) }
 {
-    let chosen = refusal::known_kernel(kernel)?;
-    refuse(refusal::bad_levels(levels), Refusal::Levels)?;
-    refuse(refusal::bad_depth(depth), Refusal::Depth)?;
-    refuse(refusal::bad_size(w, h), Refusal::Size)?;
+    let chosen = refusal::known_kernel(setting.kernel)?;
+    refuse(refusal::bad_levels(setting.levels), Refusal::Levels)?;
+    refuse(refusal::bad_depth(setting.depth), Refusal::Depth)?;
+    refuse(
+        refusal::bad_size(setting.width, setting.height),
+        Refusal::Size,
+    )?;
     Ok(chosen)
 }
 

@@ -2,6 +2,7 @@
 #![tactic(auto)]
 
 use encoder::Lengths;
+use header::Setting;
 use refusal::{Refusal, answer_number};
 use std::{fmt, io};
 
@@ -164,9 +165,16 @@ fn write_picture(rt: &impl Print, stream: &mut [u8]) -> io::Result<usize> {
     print!(rt; "10 7 / 4 4, kernel 0, transformed:")?;
     print_answer(rt, wavelet::transform(0, 1, 8, 2, 2, &samples, &mut plane))?;
     print!(rt; "rectangle 0 0 1 1, written into {} bytes:", stream.len())?;
+    let setting = Setting {
+        kernel: 0,
+        levels: 1,
+        depth: 8,
+        width: 2,
+        height: 2,
+    };
     print_written(
         rt,
-        encoder::write(&plane, &numbers, 0, 1, 8, 2, 2, &mut mask, stream),
+        encoder::write(&plane, &numbers, setting, &mut mask, stream),
     )
 }
 
