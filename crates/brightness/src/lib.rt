@@ -77,7 +77,7 @@ fn row_bad(bytes: &[u8]) -> bool
     bad
 }
 
-// How many samples of a row are in the region.
+// How many samples of a row are in the region. In 16 bits, which a row's count fits: the compiler counts more at a time than `scan::mark_count` may.
 fn row_number(bytes: &[u8]) -> u16
     requires { length bytes.now ≤ 4096 }
     ensures { result ≡ regions.number bytes.now }

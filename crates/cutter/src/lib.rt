@@ -11,7 +11,8 @@ ghost use Rattle.cutter.specs.Answers.{numbers_of};
 
 use refusal::{Refusal, refuse};
 
-// Copies a stream, cut to the wanted length, into the lent buffer `out`; reads it first, into the lent plane and mask. The answer is its length.
+// Copies a stream, cut to the wanted length, into the lent buffer `out`; reads it first, into the lent plane and mask. The answer is the length of
+// the cut stream.
 // Refusals, in order: those of the reader, 15, 11, which has the needed length. Under a refusal `out` holds what it held; plane and mask hold the reader's answer.
 pub fn cut(
     stream: &[u8],

@@ -12,7 +12,7 @@ ghost use Rattle.decoder.specs.Answers.{numbers_of};
 use header_reader::{Headed, Header};
 use refusal::{Refusal, refuse};
 
-// What was found in a body: the number of marks, the region mark, if the marked part is whole, and q, the planes of the unmarked that were not
+// What was found in a body: the number of marks, the region mark, where the marked part is whole, and q, the planes of the unmarked that were not
 // wholly received.
 #[derive(Clone, Copy)]
 pub struct Body {

@@ -38,3 +38,12 @@ module _ (k J D W H : ℕ) where
   -- the setting of a header
   pub setting_of : (l : List ℕ) → k ≡ (shot_of l).kernel → J ≡ (shot_of l).levels → D ≡ (shot_of l).depth → W ≡ (shot_of l).width → H ≡ (shot_of l).height → first (setting_tests k J D W H) ≡ setting_first l
   setting_of l p q r s t = rw (p, q, r, s, t)
+
+-- ---- those of the call
+module _ (l : List ℕ) (good : bad_header l ≡ false) (version : bad_version l ≡ false) where
+  behind : choose (eqb (setting_first l) 0) (first (shot_tests (shot_of l))) (setting_first l) ≡ first (header_tests l)
+  unfolding numbered
+  behind = next _ _ 12 _ good (next _ _ 13 _ version (sym (first-append (shot_tests (shot_of l)) _ refl)))
+
+  pub setting_first_lem : {x : ℕ} → x ≡ setting_first l → eqb x 0 ≡ false → x ≡ first (header_tests l)
+  setting_first_lem {x} e z = e ∙ (rw (← e, z) refl ∙ behind)

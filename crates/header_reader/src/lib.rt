@@ -75,7 +75,7 @@ fn rectangle_numbers(stream: &[u8], count: usize) -> [u32; 128]
     ensures { result ≡ rectangle_array stream.now count }
 {
     let mut rectangles = [0u32; 128];
-    // By index: it tells the place in the stream as well.
+    // By index: it tells the place in the stream as well, and over `iter_mut().enumerate()` the proof did not close.
     for i in 0..4 * count {
         rectangles[i] = header::two_bytes(stream, 14 + 2 * i) as u32;
     }

@@ -8,7 +8,7 @@ use lib.ListN.{length, get_or, length-drop}
 use mir.Val.{bool_byte}
 use Rattle.line.specs.Cells.{choose, listed}
 use Rattle.line.proofs.Lists.{listed-length, is_listed}
-use Rattle.std.specs.Prelude.{Ok, Err, IfOk, Result as Or}
+use Rattle.std.specs.Prelude.{Ok, Err, IfOk, Result as Answer}
 use Rattle.refusal.specs.Numbers.{refusal_number, answer_number, first}
 use Rattle.refusal.specs.declared.Refusal.{Refusal}
 use Rattle.refusal.proofs.Named.{named}
@@ -38,28 +38,28 @@ pub found_values : (b : Body) → (b.marks ∷ bool_byte (is_whole b.region_mark
 found_values b = rw (byte_is (is_whole b.region_mark)) refl
 
 -- ---- the refusal of an answer is that of its numbers
-pub written : (a : Or Lengths Refusal) → answer_number a ≡ (writing.numbers_of a).refusal
+pub written : (a : Answer Lengths Refusal) → answer_number a ≡ (writing.numbers_of a).refusal
 written (Ok n) = refl
 written (Err r) = refl
 
-pub read : (a : Or Reading Refusal) → answer_number a ≡ (numbers_of a).refusal
+pub read : (a : Answer Reading Refusal) → answer_number a ≡ (numbers_of a).refusal
 read (Ok n) = refl
 read (Err r) = refl
 
-pub cut : (a : Or ℕ Refusal) → answer_number a ≡ (cutting.numbers_of a).refusal
+pub cut : (a : Answer ℕ Refusal) → answer_number a ≡ (cutting.numbers_of a).refusal
 cut (Ok n) = refl
 cut (Err r) = refl
 
-pub arrived : (a : Or ℕ Refusal) → answer_number a ≡ (arriving.numbers_of a).refusal
+pub arrived : (a : Answer ℕ Refusal) → answer_number a ≡ (arriving.numbers_of a).refusal
 arrived (Ok n) = refl
 arrived (Err r) = refl
 
-pub measured : (a : Or Figures Refusal) → answer_number a ≡ (measuring.numbers_of a).refusal
+pub measured : (a : Answer Figures Refusal) → answer_number a ≡ (measuring.numbers_of a).refusal
 measured (Ok n) = refl
 measured (Err r) = refl
 
 -- ---- the header of an answer
-pub header_under : (f : ℕ) (l : List ℕ) (a : Or Reading Refusal) → numbers_of a ≡ numbers_under f l → IfOk a (λ x. x.header ≡ header_for (shot_of l)) → header_in a ≡ header_for (shot_under f l)
+pub header_under : (f : ℕ) (l : List ℕ) (a : Answer Reading Refusal) → numbers_of a ≡ numbers_under f l → IfOk a (λ x. x.header ≡ header_for (shot_of l)) → header_in a ≡ header_for (shot_under f l)
 header_under f l (Ok x) e h = let z : 0 ≡ f = ap (λ (n : Numbers). n.refusal) e in rw (← z) h
 header_under f l (Err r) e h = let z : refusal_number r ≡ f = ap (λ (n : Numbers). n.refusal) e in rw (← z, named r) refl
 

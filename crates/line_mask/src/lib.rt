@@ -9,7 +9,7 @@ ghost use Rattle.line_mask.specs.Marks.{Apart, Parts, Joined, Reached, Masked};
 use kernel::Kernel;
 
 // Where the marks of `lanes` lines stand in a buffer: those of their evens from a on, as many as the lows, and those of their odds from b on, as
-// many as the highs, mark n of line j at n · lanes + j.
+// many as the highs, mark n of line j at n · lanes + j. Beside `lifting::TwoParts` a type of its own: marks lie end to end, so there is no step.
 #[derive(Clone, Copy)]
 pub struct Lines {
     pub a: usize,

@@ -28,6 +28,7 @@ fn row_pass(kernel: Kernel, buf: &mut [u8], line: &mut [u16], stride: usize, w: 
     }
 }
 
+// Beside `passes::strip` and its walk over columns two functions of their own: marks are put back as they are, and nothing bounds them.
 // Masks, through working memory, `lanes` columns of n marks, the first mark of column j at start + j, the others of it stride apart.
 fn columns(
     kernel: Kernel,

@@ -79,7 +79,8 @@ fn read_some(pass: &Pass, plane: &mut [i32], from: usize, p: usize) -> usize
     read_block(pass, plane, from, p)
 }
 
-// Reads the 64 coefficients from `from` on, from place p on.
+// Reads the 64 coefficients from `from` on, from place p on. This walk and the next are the writer's with another step: one over a closure would
+// state both contracts again.
 fn read_blocks(pass: &Pass, plane: &mut [i32], from: usize, p: usize) -> usize
     requires { (from ≤ 16781312) × Prepared pass.now plane.old from p }
     ensures { Goes pass.now plane.old p from plane.new result (from + 64) }
@@ -266,7 +267,7 @@ pub fn bad_filling(body: &[u8], end: usize) -> bool
     if (end + 7) / 8 < body.len() {
         return true;
     }
-    // By place: each of the at most 7 bits is taken through the cursor.
+    // By place: each of the at most 7 bits is taken through the cursor, and over `any` the proof did not close.
     for p in end..bits {
         if coefficient::bit(body, p) != 0 {
             return true;

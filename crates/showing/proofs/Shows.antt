@@ -30,7 +30,7 @@ use Rattle.header_reader.specs.declared.Header.{Header}
 use Rattle.header_reader.specs.Answers.{header_for}
 use Rattle.decoder.specs.Answers.{numbers_of}
 use Rattle.decoder.specs.Inner.{Taken, Answered}
-use Rattle.std.specs.Prelude.{Ok, Err, Result as Or}
+use Rattle.std.specs.Prelude.{Ok, Err, Result as Answer}
 use Rattle.decoder.specs.declared.Reading.{Reading}
 use Rattle.decoder.proofs.Tests.{passed, passed_first}
 use Rattle.decoder.proofs.Answered.{sides}
@@ -86,12 +86,12 @@ module _ {l : List ℕ} {k : Kernel} {h : Header} (t : Taken l k h) where
     samples_at p = rw (is, t.kernel, t.header) at p
 
 -- ---- the answer of the reader tells which test held
-module _ {f : ℕ} {l : List ℕ} {plane plane' : List ℤ} {mask mask' : List ℕ} {a : Or Reading Refusal} (x : Answered f l plane plane' mask mask' a) where
+module _ {f : ℕ} {l : List ℕ} {plane plane' : List ℤ} {mask mask' : List ℕ} {a : Answer Reading Refusal} (x : Answered f l plane plane' mask mask' a) where
   pub done_first : (b : Reading) → a ≡ Ok b → f ≡ 0
-  done_first b e = sym (ap (λ (v : reading.Numbers). v.refusal) x.numbers) ∙ ap (λ (o : Or Reading Refusal). (numbers_of o).refusal) e
+  done_first b e = sym (ap (λ (v : reading.Numbers). v.refusal) x.numbers) ∙ ap (λ (o : Answer Reading Refusal). (numbers_of o).refusal) e
 
   pub refused_first : (r : Refusal) → a ≡ Err r → eqb f 0 ≡ false
-  refused_first r e = ap (λ (n : ℕ). eqb n 0) (sym (ap (λ (v : reading.Numbers). v.refusal) x.numbers) ∙ ap (λ (o : Or Reading Refusal). (numbers_of o).refusal) e) ∙ named r
+  refused_first r e = ap (λ (n : ℕ). eqb n 0) (sym (ap (λ (v : reading.Numbers). v.refusal) x.numbers) ∙ ap (λ (o : Answer Reading Refusal). (numbers_of o).refusal) e) ∙ named r
 
   pub plane_is : f ≡ 0 → plane' ≡ plane_of l
   plane_is e = x.plane_held ∙ rw e
@@ -106,7 +106,7 @@ module _ {f : ℕ} {l : List ℕ} {plane plane' : List ℤ} {mask mask' : List �
     shown_done e p q = record { answered = x; numbers = rw e p; samples = rw e q }
 
 -- another test of the same number
-pub shown_as : {f g r : ℕ} {l : List ℕ} {plane plane' : List ℤ} {mask mask' : List ℕ} {undone undone' : List ℤ} {shown shown' : List ℕ} {a : Or Reading Refusal} → f ≡ g
+pub shown_as : {f g r : ℕ} {l : List ℕ} {plane plane' : List ℤ} {mask mask' : List ℕ} {undone undone' : List ℤ} {shown shown' : List ℕ} {a : Answer Reading Refusal} → f ≡ g
     → LevelShown f r l plane plane' mask mask' undone undone' shown shown' a → LevelShown g r l plane plane' mask mask' undone undone' shown shown' a
 shown_as {f} {g} {r} {l} {plane} {plane'} {mask} {mask'} {undone} {undone'} {shown} {shown'} {a} e x =
     subst (λ (f : ℕ). LevelShown f r l plane plane' mask mask' undone undone' shown shown' a) e x
