@@ -5,7 +5,6 @@ use mathlib.Core.List.{List, [], ◌∷◌, ◌++◌}
 use Prim.Native.Nat.{ℕ, ◌<◌, ◌≤◌}
 use native.Mathlib.Omega.{arith}
 use lib.Dec.{ltb, eqb}
-use lib.IntN.{ℤ}
 use lib.ListN.{length, drop}
 use borrow.Author.Tests.{lt-ltb, le-ltb}
 use Rattle.line.specs.Cells.{choose}
@@ -18,11 +17,10 @@ use Rattle.header.specs.Header.{front_length}
 use Rattle.header.specs.Arrival.{cut_to}
 use Rattle.codestream.specs.Reading.{answer_of, read_tests, read_numbers, plane_after, mask_after}
 use Rattle.codestream.specs.Reading as reading
-use Rattle.codestream.specs.Cutting.{bad_cut, length_tests, cut_tests, cut_numbers, stream_after}
+use Rattle.codestream.specs.Cutting.{bad_cut, length_tests, cut_tests}
 use Rattle.decoder.specs.Answers as decoder
 use Rattle.decoder.specs.declared.Reading.{Reading}
 use Rattle.cutter.specs.Inner.{Read, Answered}
-use Rattle.cutter.specs.Answers.{numbers_of}
 use Rattle.std.specs.Prelude.{Result, Ok, Err}
 use Rattle.refusal.specs.declared.Refusal.TheVariants.{Room}
 

@@ -1,31 +1,27 @@
 -- What is answered, by the number of the first test that holds. Assumes nothing.
-use mathlib.Core.Path.{◌≡◌, refl, sym, ap, ◌∙◌}
+use mathlib.Core.Path.{◌≡◌, refl, sym, ◌∙◌}
 use mathlib.Core.Bool.{Bool, true, false}
 use mathlib.Core.List.{List, ◌++◌}
 use Prim.Native.Nat.{ℕ, ◌<◌, ◌≤◌}
-use native.Mathlib.Omega.{arith}
 use lib.Dec.{leb, ltb, eqb}
 use lib.IntN.{ℤ}
 use lib.ListN.{length, drop}
-use borrow.Author.Tests.{lt-ltb, le-ltb, eq-eqb, ne_eqb}
+use borrow.Author.Tests.{lt-ltb, le-ltb, eq-eqb}
 use Rattle.line.specs.Cells.{choose}
-use Rattle.refusal.specs.Numbers.{refusal_number, first, accepted}
+use Rattle.refusal.specs.Numbers.{first, accepted}
 use Rattle.refusal.specs.Tests.{bad_numbers, bad_rectangles, bad_magnitude}
 use Rattle.std.specs.Prelude.{Result, Ok, Err}
 use Rattle.refusal.specs.declared.Refusal.{Refusal}
 use Rattle.refusal.specs.declared.Refusal.TheVariants.{Room}
-use Rattle.refusal.proofs.Named.{named}
 use Rattle.refusal.proofs.Ordered.{next, is, numbered, first-append}
 use Rattle.scan.specs.Scan.{largest}
 use Rattle.scan.proofs.Largest.{bad_magnitude-largest}
 use Rattle.header.specs.Fields.{Shot}
 use Rattle.shot.specs.Shots.{shot_mask, marks, setting_tests, rectangle_tests}
-use Rattle.shot.proofs.Settings.{setting_most}
 use Rattle.codestream.specs.Stream.{area, total_length, region_mark, stream}
-use Rattle.codestream.specs.Writing.{other_tests, room_test, write_tests, write_numbers, mask_after, stream_after}
+use Rattle.codestream.specs.Writing.{other_tests, room_test, write_tests}
 use Rattle.encoder.specs.declared.Lengths.{Lengths}
 use Rattle.encoder.specs.Inner.{Answered}
-use Rattle.encoder.specs.Answers.{numbers_of}
 
 module _ {s : Shot} {l : List ℤ} {mask out : List ℕ} where
   -- the mask is drawn, and the stream does not fit

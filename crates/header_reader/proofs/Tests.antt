@@ -2,18 +2,18 @@
 use mathlib.Core.Path.{◌≡◌, refl, sym, ap, ◌∙◌}
 use mathlib.Core.Bool.{true, false}
 use mathlib.Core.List.{List}
-use Prim.Native.Nat.{ℕ, ◌*◌, ◌/◌, ◌%◌, ◌<◌, ◌≤◌}
+use Prim.Native.Nat.{ℕ, ◌*◌, ◌/◌, ◌%◌}
 use native.Mathlib.Omega.{arith}
 use lib.Dec.{ltb, eqb}
-use borrow.Author.Tests.{lt-ltb, le-ltb, eq-eqb}
+use borrow.Author.Tests.{eq-eqb}
 use Rattle.line.specs.Cells.{choose}
 use Rattle.refusal.specs.Numbers.{first}
-use Rattle.refusal.specs.Tests.{bad_numbers, bad_rectangles}
-use Rattle.refusal.proofs.Ordered.{here, next, none as nothing, numbered, first-append}
+use Rattle.refusal.specs.Tests.{bad_numbers}
+use Rattle.refusal.proofs.Ordered.{next, numbered, first-append}
 use Rattle.header.specs.Header.{number, bad_header, bad_version}
 use Rattle.header.specs.Fields.{numbers, shot_of}
 use Rattle.shot.specs.Shots.{setting_tests}
-use Rattle.codestream.specs.Reading.{bad_planes, shot_tests, header_tests}
+use Rattle.codestream.specs.Reading.{shot_tests, header_tests}
 use Rattle.codestream.proofs.Accepted.{Setting, setting_passed}
 use Rattle.header_reader.proofs.Arrays.{numbers-length}
 

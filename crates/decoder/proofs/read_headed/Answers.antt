@@ -1,20 +1,17 @@
 -- `decoder::read_headed` tests the buffers, draws the mask and reads the body. Assumes nothing.
 use mathlib.Core.Path.{◌≡◌, refl, ap, ap₂, ◌∙◌}
-use mathlib.Core.Bool.{false}
 use mathlib.Core.List.{List}
 use Prim.Native.Nat.{ℕ, ◌*◌}
 use native.Mathlib.Omega.{arith}
 use lib.ListN.{length}
 use borrow.Author.Rules.{rules}
 use Rattle.refusal.specs.Numbers.{first}
-use Rattle.refusal.specs.Tests.{bad_length}
-use Rattle.refusal.specs.declared.Refusal.TheVariants.{Length}
 use Rattle.refusal.proofs.Passed.{area}
 use Rattle.header.specs.Fields.{shot_of}
 use Rattle.codestream.specs.Reading.{bad_planes, buffer_tests, filling_test}
 use Rattle.header_reader.specs.declared.Header.{Header}
-use Rattle.decoder.proofs.Tests.{full_length, other_length, plane_other, mask_other, filling_only, Passed, passed}
-use Rattle.decoder.proofs.Answered.{refused_answer, body_refused, body_done, few, room, sides, front_length, drawable, mask_drawn}
+use Rattle.decoder.proofs.Tests.{full_length, filling_only, Passed, passed}
+use Rattle.decoder.proofs.Answered.{body_refused, body_done, few, room, sides, front_length, drawable, mask_drawn}
 use Rattle.decoder.proofs.read_headed.Goals as goal
 
 pub overflow_mul-w : goal.overflow_mul-w

@@ -1,6 +1,4 @@
 -- `header::put_rectangles` writes the numbers of the rectangles. Assumes nothing.
-use Prim.Native.Nat.{◌-◌}
-use lib.ListN.{length}
 use Rattle.header.proofs.Writing.{Listed}
 use Rattle.header.proofs.put_rectangles.Given as goal
 

@@ -1,5 +1,5 @@
 -- `header_reader::header_set` tests what stands behind the setting. Assumes nothing.
-use mathlib.Core.Path.{◌≡◌, refl, sym, ap, ◌∙◌}
+use mathlib.Core.Path.{refl, ap, ◌∙◌}
 use borrow.Author.Rules.{rules}
 use borrow.Author.Tests.{ltb-false}
 use Rattle.kernel.specs.Kernels.{the_kernel}
