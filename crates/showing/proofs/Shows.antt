@@ -21,13 +21,11 @@ use Rattle.level_picture.specs.Level.{bad_area}
 use Rattle.level_picture.specs.Inner.{level_at, Lent}
 use Rattle.level_picture.proofs.Areas.{good_area, area_below}
 use Rattle.header.specs.Fields.{shot_of}
-use Rattle.shot.specs.Shots.{shot_mask}
 use Rattle.codestream.specs.Stream.{area}
 use Rattle.codestream.specs.Reading.{plane_of, buffer_tests, numbers_under, shot_under, held_under}
 use Rattle.codestream.specs.Reading as reading
 use Rattle.codestream.proofs.Planes.{plane_accepted}
 use Rattle.header_reader.specs.declared.Header.{Header}
-use Rattle.header_reader.specs.Answers.{header_for}
 use Rattle.decoder.specs.Answers.{numbers_of}
 use Rattle.decoder.specs.Inner.{Taken, Answered}
 use Rattle.std.specs.Prelude.{Ok, Err, Result as Answer}

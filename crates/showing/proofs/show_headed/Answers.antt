@@ -1,18 +1,12 @@
 -- `showing::show_headed` reads a stream whose header is taken, and shows it. Assumes nothing.
-use mathlib.Core.Path.{◌≡◌, refl, sym, ap, ◌∙◌}
-use mathlib.Core.Bool.{false}
-use mathlib.Core.List.{List}
+use mathlib.Core.Path.{refl, sym, ap, ◌∙◌}
 use Prim.Native.Nat.{ℕ}
 use native.Mathlib.Omega.{arith}
 use lib.Dec.{eqb}
 use lib.ListN.{length}
 use borrow.Author.Rules.{rules}
-use Rattle.refusal.specs.Numbers.{first}
 use Rattle.refusal.specs.declared.Refusal.TheVariants.{Length}
-use Rattle.level_picture.specs.Level.{bad_area}
-use Rattle.codestream.specs.Reading.{buffer_tests}
 use Rattle.decoder.proofs.Answered.{refused_answer, sides}
-use Rattle.exactness.specs.Shown.{area_tests}
 use Rattle.showing.proofs.Shows.{few, other_area, good_first, lent, below, numbers_at, samples_at, done_first, refused_first, plane_is, shown_refused, shown_done, shown_as}
 use Rattle.showing.proofs.show_headed.Goals as goal
 

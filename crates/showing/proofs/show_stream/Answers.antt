@@ -1,24 +1,18 @@
 -- `showing::show_stream` shows a stream at a level, or refuses. Assumes nothing.
-use mathlib.Core.Path.{◌≡◌, refl, sym, ap, subst, ◌∙◌}
-use mathlib.Core.Bool.{false}
-use mathlib.Core.List.{List}
+use mathlib.Core.Path.{refl, sym, ap, subst, ◌∙◌}
 use Prim.Native.Nat.{ℕ, ◌≤◌}
 use native.Mathlib.Omega.{arith}
 use borrow.Author.Tests.{ne_eqb}
 use lib.Dec.{eqb}
 use lib.ListN.{length}
 use borrow.Author.Rules.{rules}
-use Rattle.refusal.specs.Numbers.{refusal_number, first}
+use Rattle.refusal.specs.Numbers.{refusal_number}
 use Rattle.refusal.specs.declared.Refusal.TheVariants.{Level}
 use Rattle.refusal.proofs.Named.{named}
-use Rattle.header.specs.Fields.{shot_of}
-use Rattle.codestream.specs.Reading.{header_tests}
-use Rattle.header_reader.specs.Answers.{header_for}
 use Rattle.header_reader.specs.declared.Headed.{Headed}
 use Rattle.decoder.proofs.Tests.{header_most}
 use Rattle.decoder.proofs.Answered.{refused_answer}
-use Rattle.exactness.specs.Shown.{stream_tests}
-use Rattle.showing.proofs.Fronts.{above, level_first, header_first, area_first, level_within}
+use Rattle.showing.proofs.Fronts.{level_first, header_first, area_first, level_within}
 use Rattle.showing.proofs.Shows.{shown_refused, shown_as}
 use Rattle.showing.proofs.show_stream.Goals as goal
 
