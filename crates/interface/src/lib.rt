@@ -32,6 +32,7 @@ ghost use Rattle.interface.specs.Results.{GivenAt, Given, write_results, body_nu
 use brightness::Figures;
 use decoder::Reading;
 use encoder::Lengths;
+use header::Setting;
 use header_reader::Header;
 use refusal::{Refusal, refuse};
 
@@ -196,7 +197,14 @@ pub extern "C" fn dhiirqobaal_write(
     ensures mask_after { mask.new ≡ mask_after (shot_for kernel levels depth w h numbers.now plane.now) plane.now (length stream.old) mask.old }
     ensures stream_after { stream.new ≡ stream_after (shot_for kernel levels depth w h numbers.now plane.now) plane.now (length mask.old) stream.old }
 {
-    let answer = encoder::write(plane, numbers, kernel, levels, depth, w, h, mask, stream);
+    let setting = Setting {
+        kernel,
+        levels,
+        depth,
+        width: w,
+        height: h,
+    };
+    let answer = encoder::write(plane, numbers, setting, mask, stream);
     give(&write_values(&answer), 0, results);
     refusal::answer_number(&answer)
 }
