@@ -40,6 +40,9 @@ KIT = [
     ('length, replicate', 'the number of cells; n equal cells'),
     ('get_or', '`get_or l i o` is cell i of l, o past its end'),
     ('take, drop', 'the first n cells; the cells behind them'),
+    ('Option, Some, None', 'a value, or none'),
+    ('Result, Ok, Err', 'a value, or what was refused; a record `Result` of our own is told where it stands'),
+    ('IfOk', '`IfOk r P`: where r is `Ok x`, P of x; of an `Err` it says nothing'),
 ]
 LANGUAGE = '''`abbrev` and `unfoldable` begin a definition and say how the checker treats it; `λ x. e` is the function that gives e for x. A `use` of
 `Rattle.grid.specs.Picture` is of `crates/grid/specs/Picture.antt`; `specs.declared.Kernel` is the type `Kernel` of the crate's `src/lib.rt`. In a

@@ -27,7 +27,8 @@ use Rattle.decoder.specs.Answers.{is_whole, place_of, found_in, numbers_of}
 use Rattle.decoder.specs.declared.Reading.{Reading}
 use Rattle.decoder.specs.declared.Body.{Body}
 use Rattle.header_reader.specs.declared.Header.{Header}
-use Rattle.interface.specs.Results.{GivenAt, Given, body_numbers, header_numbers, shot_results, header_in, read_results, body_results}
+use Rattle.interface.specs.Inner.{header_in}
+use Rattle.interface.specs.Results.{GivenAt, Given, body_numbers, header_numbers, shot_results, read_results, body_results}
 use Rattle.interface.proofs.Giving.{given_eq, given_both}
 
 byte_is : (b : Bool) → bool_byte b ≡ choose b 1 0

@@ -1,2 +1,3 @@
 -- What the contracts of the C interface cite.
 pub mod Results
+pub mod Inner

@@ -6,7 +6,6 @@
 --   body_numbers n       == of `read`: marks, whole (1 or 0), region mark, q
 --   header_numbers s     == kernel, J, D, W, H, T, k, of the header
 --   shot_results s       == of `header`: these, and 128 rectangle numbers, 0 behind the last
---   header_in a          == the header that `read` answers, every number 0 under a refusal
 --   read_results n s     == of `read`: the body's numbers, and these
 --   cut_results n        == of `cut`: the length (under 11 the needed one)
 --   body_results l       == of `body`: where the body begins in the stream, and its length
@@ -15,10 +14,9 @@
 --   library_version      == of `version`: 10,000 times the major number, 100 times the minor one, and the patch
 --
 -- Assumes nothing: these are definitions.
-use Rattle.std.specs.Prelude.{◌≡◌, List, [], ◌∷◌, ◌++◌, ℕ, ◌+◌, ◌*◌, ◌/◌, ◌<◌, ◌≤◌, length, get_or, Result, Ok, Err}
+use Rattle.std.specs.Prelude.{◌≡◌, List, [], ◌∷◌, ◌++◌, ℕ, ◌+◌, ◌*◌, ◌/◌, ◌<◌, ◌≤◌, length, get_or}
 use Rattle.line.specs.Cells.{choose, listed}
 use Rattle.refusal.specs.Numbers.{accepted}
-use Rattle.refusal.specs.declared.Refusal.{Refusal}
 use Rattle.header.specs.Header.{front_length, body_tests, body_of}
 use Rattle.header.specs.Fields.{Shot}
 use Rattle.header.specs.Arrival as arrival
@@ -26,9 +24,6 @@ use Rattle.brightness.specs.Brightness as brightness
 use Rattle.codestream.specs.Writing as writing
 use Rattle.codestream.specs.Reading as reading
 use Rattle.codestream.specs.Cutting as cutting
-use Rattle.header_reader.specs.declared.Header.{Header}
-use Rattle.header_reader.specs.Answers.{header_for}
-use Rattle.decoder.specs.declared.Reading.{Reading}
 
 pub record GivenAt (at : ℕ) (vs l l' : List ℕ) : Type 0 where
   pub size : length l' ≡ length l
@@ -50,10 +45,6 @@ header_numbers s = s.kernel ∷ s.levels ∷ s.depth ∷ s.width ∷ s.height �
 
 abbrev pub shot_results : Shot → List ℕ
 shot_results s = header_numbers s ++ listed 128 (λ i. get_or s.rectangles i 0)
-
-abbrev pub header_in : Result Reading Refusal → Header
-header_in (Ok a) = a.header
-header_in (Err r) = header_for reading.no_shot
 
 abbrev pub read_results : reading.Numbers → Shot → List ℕ
 read_results n s = body_numbers n ++ shot_results s

@@ -27,7 +27,8 @@ ghost use Rattle.header_reader.specs.Answers.{header_for};
 ghost use Rattle.decoder.specs.Answers as found;
 ghost use Rattle.cutter.specs.Answers as cut;
 ghost use Rattle.exactness.specs.Shown.{level_number_at, level_sample_at, stream_tests};
-ghost use Rattle.interface.specs.Results.{GivenAt, Given, write_results, body_numbers, shot_results, header_in, read_results, cut_results, body_results, arrival_results, brightness_results, library_version};
+ghost use Rattle.interface.specs.Inner.{header_in};
+ghost use Rattle.interface.specs.Results.{GivenAt, Given, write_results, body_numbers, shot_results, read_results, cut_results, body_results, arrival_results, brightness_results, library_version};
 
 use brightness::Figures;
 use decoder::Reading;
