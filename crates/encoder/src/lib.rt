@@ -7,8 +7,8 @@ ghost use Rattle.codestream.specs.Writing.{shot_for, room_test, write_numbers, m
 ghost use Rattle.encoder.specs.Inner.{Masked, Answered};
 ghost use Rattle.encoder.specs.Answers.{numbers_of};
 
-use header::Setting;
 use refusal::{Refusal, refuse};
+use setting::Setting;
 
 // The lengths of a stream that was written, and its number of marks.
 #[derive(Clone, Copy)]

@@ -9,16 +9,7 @@ ghost use Rattle.header.specs.Arrival.{bad_arrival, arrived_of, arrival_numbers}
 ghost use Rattle.header.specs.Answers.{numbers_of};
 
 use refusal::{Refusal, refuse};
-
-// A shot's setting as numbers, any numbers.
-#[derive(Clone, Copy)]
-pub struct Setting {
-    pub kernel: usize,
-    pub levels: usize,
-    pub depth: usize,
-    pub width: usize,
-    pub height: usize,
-}
+use setting::Setting;
 
 // The numbers of one, two and four bytes at a place.
 pub fn one_byte(stream: &[u8], at: usize) -> usize

@@ -9,9 +9,9 @@ use Rattle.kernel.specs.declared.Kernel.{Kernel}
 use Rattle.kernel.specs.Kernels.{the_kernel}
 use Rattle.line.specs.Cells.{listed}
 use Rattle.refusal.specs.Numbers.{first}
-use Rattle.header.specs.declared.Setting.{Setting}
 use Rattle.header.specs.Header.{bad_header, bad_version}
 use Rattle.header.specs.Fields.{numbers, shot_of}
+use Rattle.setting.specs.declared.Setting.{Setting}
 use Rattle.shot.specs.Shots.{setting_tests}
 
 abbrev pub rectangle_array : List ℕ → ℕ → List ℕ

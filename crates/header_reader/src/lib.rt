@@ -8,9 +8,9 @@ ghost use Rattle.codestream.specs.Reading.{shot_tests, header_tests, no_shot};
 ghost use Rattle.header_reader.specs.Answers.{header_for, headed_for};
 ghost use Rattle.header_reader.specs.Inner.{rectangle_array, Set};
 
-use header::Setting;
 use kernel::Kernel;
 use refusal::{Refusal, refuse};
+use setting::Setting;
 
 // A header with its rectangles' numbers, x, y, width and height of each in turn; 0 behind those of the last one.
 #[derive(Clone, Copy)]

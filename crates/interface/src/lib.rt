@@ -33,9 +33,9 @@ ghost use Rattle.interface.specs.Results.{GivenAt, Given, write_results, body_nu
 use brightness::Figures;
 use decoder::Reading;
 use encoder::Lengths;
-use header::Setting;
 use header_reader::Header;
 use refusal::{Refusal, refuse};
+use setting::Setting;
 
 // Result numbers into the caller's array from `at` on, as far as it reaches.
 fn give(values: &[u64], at: usize, results: &mut [u64])
@@ -100,7 +100,14 @@ pub extern "C" fn dhiirqobaal_transform(
     ensures value { result ≡ first (transform_tests kernel levels depth w h samples.now (length plane.old)) }
     ensures fact { Result (pos 0) (accepted (transform_tests kernel levels depth w h samples.now (length plane.old))) (coefficient kernel levels w h samples.now) plane.old plane.new }
 {
-    let answer = wavelet::transform(kernel, levels, depth, w, h, samples, plane);
+    let setting = Setting {
+        kernel,
+        levels,
+        depth,
+        width: w,
+        height: h,
+    };
+    let answer = wavelet::transform(setting, samples, plane);
     refusal::answer_number(&answer)
 }
 

@@ -10,6 +10,7 @@
 ghost use Rattle.std.specs.Prelude.{◌≡◌, ◌+◌, ◌*◌, ◌≤◌, ◌<◌, length, IfOk, IfSome};
 
 use refusal::Refusal;
+use setting::Setting;
 use standard_input::read_input;
 use std::{fmt, io};
 
@@ -80,15 +81,14 @@ fn compare(head: Head, samples: &[u8], coefficients: &[u8]) -> Result<usize, Ref
     let picture = &mut picture[..head.area()];
     let plane = &mut plane[..head.area()];
     read_samples(samples, picture);
-    wavelet::transform(
-        3,
-        usize::from(head.levels),
-        usize::from(head.depth),
-        usize::from(head.width),
-        usize::from(head.height),
-        picture,
-        plane,
-    )?;
+    let setting = Setting {
+        kernel: 3,
+        levels: usize::from(head.levels),
+        depth: usize::from(head.depth),
+        width: usize::from(head.width),
+        height: usize::from(head.height),
+    };
+    wavelet::transform(setting, picture, plane)?;
     Ok(differences(plane, coefficients))
 }
 

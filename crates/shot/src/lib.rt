@@ -7,9 +7,9 @@ ghost use Rattle.refusal.specs.Numbers.{answer_number, first};
 ghost use Rattle.shot.specs.Inner.{Drawable};
 ghost use Rattle.shot.specs.Shots.{mask_bytes, setting_tests};
 
-use header::Setting;
 use kernel::Kernel;
 use refusal::{Refusal, refuse};
+use setting::Setting;
 
 // The kernel of a setting, or the first refusal of the setting. Refusals, in order: 1, 2, 3, 4.
 #[tactic(auto, unfolding(refusal::specs::Numbers::first))]

@@ -15,6 +15,7 @@ ghost use Rattle.wavelet.specs.Walks.{area_bound, Levels, Undone, Sized};
 
 use kernel::Kernel;
 use refusal::{Refusal, refuse};
+use setting::Setting;
 
 // A level and those below it: the row pass, and then `cols`. Stride, width and height are three numbers for speed, as in `passes`.
 #[cycle(cols_rows)]
@@ -77,30 +78,24 @@ fn transform_all(
     rows(kernel, plane, &mut q, w, w - w / 2, h - h / 2, levels - 1);
 }
 
-// The plane of a picture of w by h samples of `depth` bits.
+// The plane of a picture of the setting's size and depth.
 // Refusals, in order: 1, 2, 3, 4, 5, 6. Under a refusal the plane holds what it held.
 #[tactic(auto, unfolding(refusal::specs::Numbers::first))]
-pub fn transform(
-    kernel: usize,
-    levels: usize,
-    depth: usize,
-    w: usize,
-    h: usize,
-    samples: &[u16],
-    plane: &mut [i32],
-) -> Result<(), Refusal>
-    ensures result_value { answer_number result ≡ first (transform_tests kernel levels depth w h samples.now (length plane.old)) }
-    ensures fact { Result (pos 0) (accepted (transform_tests kernel levels depth w h samples.now (length plane.old))) (coefficient kernel levels w h samples.now) plane.old plane.new }
+pub fn transform(setting: Setting, samples: &[u16], plane: &mut [i32]) -> Result<(), Refusal>
+    ensures result_value { answer_number result ≡ first (transform_tests setting.kernel setting.levels setting.depth setting.width setting.height samples.now (length plane.old)) }
+    ensures fact { Result (pos 0) (accepted (transform_tests setting.kernel setting.levels setting.depth setting.width setting.height samples.now (length plane.old))) (coefficient setting.kernel setting.levels setting.width setting.height samples.now) plane.old plane.new }
 {
-    let chosen = refusal::known_kernel(kernel)?;
-    refuse(refusal::bad_levels(levels), Refusal::Levels)?;
-    refuse(refusal::bad_depth(depth), Refusal::Depth)?;
+    let chosen = refusal::known_kernel(setting.kernel)?;
+    refuse(refusal::bad_levels(setting.levels), Refusal::Levels)?;
+    refuse(refusal::bad_depth(setting.depth), Refusal::Depth)?;
+    let w = setting.width;
+    let h = setting.height;
     refuse(refusal::bad_size(w, h), Refusal::Size)?;
     let count = w * h;
     refuse(samples.len() != count, Refusal::Length)?;
     refuse(plane.len() != count, Refusal::Length)?;
-    refuse(refusal::bad_sample(depth, samples), Refusal::Sample)?;
-    transform_all(chosen, levels, w, h, samples, plane);
+    refuse(refusal::bad_sample(setting.depth, samples), Refusal::Sample)?;
+    transform_all(chosen, setting.levels, w, h, samples, plane);
     Ok(())
 }
 

@@ -2,8 +2,8 @@
 #![tactic(auto)]
 
 use encoder::Lengths;
-use header::Setting;
 use refusal::{Refusal, answer_number};
+use setting::Setting;
 use std::{fmt, io};
 
 // Numbers, with a space before each.
@@ -50,17 +50,30 @@ fn print_sizes(rt: &impl Print) -> io::Result<()> {
     let narrow = [0u16; 24];
     let mut narrow_plane = [0i32; 24];
     print!(rt; "J 2 with W 6:")?;
-    print_answer(
-        rt,
-        wavelet::transform(0, 2, 8, 6, 4, &narrow, &mut narrow_plane),
-    )?;
+    let mut setting = Setting {
+        kernel: 0,
+        levels: 2,
+        depth: 8,
+        width: 6,
+        height: 4,
+    };
+    print_answer(rt, wavelet::transform(setting, &narrow, &mut narrow_plane))?;
     let wide = [0u16; 32];
     let mut wide_plane = [0i32; 32];
     print!(rt; "J 2 with W 8:")?;
-    print_answer(
-        rt,
-        wavelet::transform(0, 2, 8, 8, 4, &wide, &mut wide_plane),
-    )
+    setting.width = 8;
+    print_answer(rt, wavelet::transform(setting, &wide, &mut wide_plane))
+}
+
+// One level by a kernel, of 2 by 2 samples of 8 bits.
+fn small(kernel: usize) -> Setting {
+    Setting {
+        kernel,
+        levels: 1,
+        depth: 8,
+        width: 2,
+        height: 2,
+    }
 }
 
 // The picture 10 7 / 4 4 by one kernel, there and back.
@@ -70,10 +83,7 @@ fn print_picture(rt: &impl Print, kernel: usize) -> io::Result<()> {
     let mut undone = [0i32; 4];
     let mut shown = [0u16; 4];
     print!(rt; "10 7 / 4 4, kernel {kernel}, transformed:")?;
-    print_answer(
-        rt,
-        wavelet::transform(kernel, 1, 8, 2, 2, &samples, &mut plane),
-    )?;
+    print_answer(rt, wavelet::transform(small(kernel), &samples, &mut plane))?;
     println!(rt; "{}", Row(&plane))?;
     print!(rt; "undone:")?;
     print_answer(rt, wavelet::undo(kernel, 1, 2, 2, &plane, &mut undone))?;
@@ -160,18 +170,12 @@ fn print_untouched(rt: &impl Print, stream: &[u8], from: usize) -> io::Result<()
 fn write_picture(rt: &impl Print, stream: &mut [u8]) -> io::Result<usize> {
     let samples = [10u16, 7, 4, 4];
     let numbers = [0u32, 0, 1, 1];
+    let setting = small(0);
     let mut plane = [0i32; 4];
     let mut mask = [0u8; 4];
     print!(rt; "10 7 / 4 4, kernel 0, transformed:")?;
-    print_answer(rt, wavelet::transform(0, 1, 8, 2, 2, &samples, &mut plane))?;
+    print_answer(rt, wavelet::transform(setting, &samples, &mut plane))?;
     print!(rt; "rectangle 0 0 1 1, written into {} bytes:", stream.len())?;
-    let setting = Setting {
-        kernel: 0,
-        levels: 1,
-        depth: 8,
-        width: 2,
-        height: 2,
-    };
     print_written(
         rt,
         encoder::write(&plane, &numbers, setting, &mut mask, stream),

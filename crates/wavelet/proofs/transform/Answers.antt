@@ -8,5 +8,5 @@ use Rattle.wavelet.proofs.transform.Goals as goal
 
 pub transform_all-requires-clause-below : goal.transform_all-requires-clause-below
 transform_all-requires-clause-below c =
-    let a = c.args in let d = inside 1 10 _ (sym c.bad_depth.ensures ∙ c.in_ok-refuse-2.ensures) in
-    samples_below a.w a.h a.depth a.samples.now (search rules) (samples _ _ (sym c.bad_sample.ensures ∙ c.in_ok-refuse-6.ensures)) (pow_mono {j = 10} d.1)
+    let a = c.args in let s = a.setting in let d = inside 1 10 _ (sym c.bad_depth.ensures ∙ c.in_ok-refuse-2.ensures) in
+    samples_below s.width s.height s.depth a.samples.now (search rules) (samples _ _ (sym c.bad_sample.ensures ∙ c.in_ok-refuse-6.ensures)) (pow_mono {j = 10} d.1)
