@@ -46,7 +46,7 @@ def shape(body):
     """A body with its names, types and numbers left out: twins have one shape."""
     names = {}
     tokens = []
-    for token in re.findall(r'\w+|[^\w\s]', re.sub(r'//.*', '', body)):
+    for token in re.findall(r'\w+|[^\w\s]', body):
         if token in NUMBER_TYPES:
             token = 'TYPE'
         elif token[0].isdigit():
@@ -61,7 +61,7 @@ def places(folder):
     found = {point: [] for point in ('1', '2', '3', '3, plain', '4', '5', '7')}
     shapes = {}
     for path in sorted(glob.glob(os.path.join(folder, 'crates', '*', 'src', '*.rt'))):
-        text = open(path, encoding='utf-8').read()
+        text = re.sub(r'//.*', lambda comment: ' ' * len(comment.group(0)), open(path, encoding='utf-8').read())
         name = os.path.relpath(path, folder)
 
         def put(point, start, what):
