@@ -228,6 +228,8 @@ pub fn second_step(kernel: Kernel, undo: bool, l: &mut [i32], p: TwoParts, d: us
 }
 
 // The transforms of `lanes` lines, whose evens are the first part and whose odds the second: the lows take the evens' place, the highs the odds'.
+// Inlined: in the short rows of deep levels a call costs kernel 0 a twelfth of its time.
+#[inline(always)]
 pub fn forward(kernel: Kernel, l: &mut [i32], p: TwoParts)
     requires lows_nonzero { (0 < p.lows) × (p.highs ≤ p.lows) × (p.lows ≤ p.highs + 1) }
     requires parts { Parts p.a p.b p.step p.lows p.highs p.lanes (length l.old) }
