@@ -103,23 +103,22 @@ fn gives(z: i32, t: u32, member: u32) -> Gathered
     }
 }
 
-// The magnitudes of those of the 16 coefficients from i on that are of the class, joined bit by bit: none is larger.
+// The magnitudes of the 16 coefficients from i on, joined bit by bit: none is larger.
 fn high(pass: &Pass, i: usize) -> u32
     requires { Sound pass.now × (i + 16 ≤ length pass.now.plane.now) }
-    ensures { (k : ℕ) → k < 16 → class pass.now.mask.now pass.now.class (i + k) ≡ true → nat_abs (cell pass.now.plane.now (i + k)) ≤ result }
+    ensures { (k : ℕ) → k < 16 → nat_abs (cell pass.now.plane.now (i + k)) ≤ result }
 {
     let mut high: u32 = 0;
-    for (k, z) in pass.plane[i..i + 16].iter().enumerate() {
-        let member = members::member(pass.mask, pass.class, i + k) as u32;
-        high |= whole::magnitude(*z) as u32 * member;
+    for z in &pass.plane[i..i + 16] {
+        high |= whole::magnitude(*z) as u32;
     }
     high
 }
 
-// Whether none of those of the class has begun: their zeros are then all that they give.
+// Whether none of them has begun: the zeros of those of the class are then all that they give. Of whatever class: the mask need not be read.
 fn idle(pass: &Pass, i: usize) -> bool
     requires { Sound pass.now × (i + 16 ≤ length pass.now.plane.now) }
-    ensures { result ≡ true → (k : ℕ) → k < 16 → class pass.now.mask.now pass.now.class (i + k) ≡ true → nat_abs (cell pass.now.plane.now (i + k)) / 2 ^ pass.now.t ≡ 0 }
+    ensures { result ≡ true → (k : ℕ) → k < 16 → nat_abs (cell pass.now.plane.now (i + k)) / 2 ^ pass.now.t ≡ 0 }
 {
     high(pass, i) >> pass.t == 0
 }
