@@ -1,7 +1,8 @@
 -- What one coefficient gives to a plane, as digits behind a number. Assumes nothing.
-use mathlib.Core.Path.{◌≡◌, refl}
+use mathlib.Core.Path.{◌≡◌, refl, ◌∙◌}
+use mathlib.Core.Bool.{Bool, true, false}
 use mathlib.Core.List.{[], ◌∷◌}
-use Prim.Native.Nat.{ℕ, zero, suc, ◌+◌, ◌/◌, ◌%◌, ◌^◌, ◌<◌, ◌≤◌}
+use Prim.Native.Nat.{ℕ, zero, suc, ◌+◌, ◌*◌, ◌/◌, ◌%◌, ◌^◌, ◌<◌, ◌≤◌}
 use native.Mathlib.Omega.{arith}
 use lib.Bits.{bit_and, bit_or, and_zero_r, and_mask, or_add_and, and_le_l, and_le_r}
 use lib.Dec.{eqb}
@@ -23,6 +24,14 @@ or_most a b = omega (arith, or_add_and a b, and_le_l a b, and_le_r a b)
 -- ---- what is no larger than a number whose digits down to plane t are 0
 pub not_begun : {a : ℕ} (t high : ℕ) → high / 2 ^ t ≡ 0 → a ≤ high → a / 2 ^ t ≡ 0
 not_begun t high e h = omega (arith, shr_mono t h)
+
+-- ---- a number that counts if its coefficient is a member
+pub member_least : (a m : ℕ) (b : Bool) → m ≡ choose b 1 0 → a * m ≤ a
+member_least a m true e = rw e (omega arith)
+member_least a m false e = rw e (omega arith)
+
+pub member_all : (a m : ℕ) {b : Bool} → m ≡ choose b 1 0 → b ≡ true → a * m ≡ a
+member_all a m e o = let d : m ≡ 1 = e ∙ rw o refl in rw d (omega arith)
 
 -- ---- tests as numbers
 pub minus : (z : ℤ) → choose (lt_z z (pos 0)) 1 0 ≡ sign z

@@ -115,12 +115,32 @@ fn high(pass: &Pass, i: usize) -> u32
     high
 }
 
-// Whether none of them has begun: the zeros of those of the class are then all that they give. Of whatever class: the mask need not be read.
-fn idle(pass: &Pass, i: usize) -> bool
+// The same of those of the class alone.
+fn high_members(pass: &Pass, i: usize) -> u32
     requires { Sound pass.now × (i + 16 ≤ length pass.now.plane.now) }
-    ensures { result ≡ true → (k : ℕ) → k < 16 → nat_abs (cell pass.now.plane.now (i + k)) / 2 ^ pass.now.t ≡ 0 }
+    ensures { (k : ℕ) → k < 16 → class pass.now.mask.now pass.now.class (i + k) ≡ true → nat_abs (cell pass.now.plane.now (i + k)) ≤ result }
 {
-    high(pass, i) >> pass.t == 0
+    let mut high: u32 = 0;
+    for (k, z) in pass.plane[i..i + 16].iter().enumerate() {
+        let member = members::member(pass.mask, pass.class, i + k) as u32;
+        high |= whole::magnitude(*z) as u32 * member;
+    }
+    high
+}
+
+// Whether none of the class, of which so many are among them, has begun: their zeros are then all that they give. Those of the other class are
+// asked with them first, which needs no look at the mask, and left out where one of the 16 has begun.
+fn idle(pass: &Pass, i: usize, members: usize) -> bool
+    requires { Sound pass.now × (i + 16 ≤ length pass.now.plane.now) }
+    ensures { result ≡ true → (k : ℕ) → k < 16 → class pass.now.mask.now pass.now.class (i + k) ≡ true → nat_abs (cell pass.now.plane.now (i + k)) / 2 ^ pass.now.t ≡ 0 }
+{
+    if high(pass, i) >> pass.t == 0 {
+        return true;
+    }
+    if members == 16 {
+        return false;
+    }
+    high_members(pass, i) >> pass.t == 0
 }
 
 // What each of the 16 coefficients from i on gives. By `enumerate` and no `zip`: under `zip` a proof has no name for what was written by
@@ -164,7 +184,7 @@ fn write_block(out: &mut [u8], pass: &Pass, i: usize, p: usize) -> usize
     if members == 0 {
         return p;
     }
-    if idle(pass, i) {
+    if idle(pass, i, members) {
         let zeros = Gathered {
             number: 0,
             count: members as u32,

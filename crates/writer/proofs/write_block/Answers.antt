@@ -19,12 +19,12 @@ overflow_cast-zeros c = let s = c.args.pass.now in omega (arith, c.among-members
 
 pub send-requires : goal.send-requires
 send-requires c = let s = c.args.pass.now in
-    let zeros : Digits (stretch s c.args.i 16) 0 c.among-members.result = run-zero _ _ _ 16 c.among-members.ensures (λ k h o. c.idle.ensures c.if-idle.true k h) in
+    let zeros : Digits (stretch s c.args.i 16) 0 c.among-members.result = run-zero _ _ _ 16 c.among-members.ensures (c.idle.ensures c.if-idle.true) in
     run_fits _ _ _ c.among-members.ensures c.if-members-eq0.false zeros c.requires.room
 
 pub returns-then-idle : goal.returns-then-idle
 returns-then-idle c = let s = c.args.pass.now in
-    let zeros : Digits (stretch s c.args.i 16) 0 c.among-members.result = run-zero _ _ _ 16 c.among-members.ensures (λ k h o. c.idle.ensures c.if-idle.true k h) in
+    let zeros : Digits (stretch s c.args.i 16) 0 c.among-members.result = run-zero _ _ _ 16 c.among-members.ensures (c.idle.ensures c.if-idle.true) in
     rw c.send.ensures.place (puts_sends (run_binary _ _ _ 16) zeros c.send.ensures.puts)
 
 pub send-requires-2 : goal.send-requires-2
