@@ -38,6 +38,12 @@ straight_between s M n r low high = record {
   after = λ i d h p. omega (arith, inside_here M (n + i + d) 0 (omega arith) (omega arith), inside_here M (n + d) 0 (omega arith) (omega arith));
 }
 
+pub look_two : (s : Step) → (look_back s ≤ 2) × (look_ahead s ≤ 2)
+look_two SPlusP = omega arith
+look_two TT = omega arith
+look_two High = omega arith
+look_two Low = omega arith
+
 -- ---- what a run computes
 module _ {s : Step} {M n r t c : ℕ} (x : EndToEnd t c r) (st : Straight s M n r) (l : List ℤ) (i j : ℕ) (h : i < r) where
   cell_here : (u : ℕ) → cell l (u + (n + i) * t + j) ≡ cell l (u + n * t + (i * c + j))

@@ -21,9 +21,12 @@ one_zero : {b : Bool} → b ≡ true → b ≡ false → ◌≡◌ {A = ℕ} 1 0
 one_zero e f = sym (ap (λ (b : Bool). choose {A = ℕ} b 1 0) e) ∙ ap (λ (b : Bool). choose {A = ℕ} b 1 0) f
 
 -- ---- one flag
+pub flag_some : {on : ℕ → Bool} {i : ℕ} → Flagged on i 1
+flag_some = record { bit = omega arith; each = λ k h o. refl }
+
 pub flag_test : {on : ℕ → Bool} {i : ℕ} (n : ℕ) → n ≡ count 64 (behind i on) → Flagged on i (choose (not (eqb n 0)) 1 0)
 flag_test {on} {i} zero e = record { bit = omega arith; each = λ k h o. sym (one_zero o (count_none 64 (behind i on) (sym e) k h)) }
-flag_test (suc n) e = rw (ne_eqb (suc n) 0 (λ z. omega arith)) (record { bit = omega arith; each = λ k h o. refl })
+flag_test (suc n) e = rw (ne_eqb (suc n) 0 (λ z. omega arith)) flag_some
 
 -- ---- a word: j flags so far
 pub record Flags (on : ℕ → Bool) (i j word : ℕ) : Type 0 where

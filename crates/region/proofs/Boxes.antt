@@ -1,4 +1,4 @@
--- Drawing a rectangle row by row: each run of bytes is one row more of the rectangle.
+-- Drawing a rectangle row by row: n bytes written one after the other fill a run, and each run is one row more of the rectangle.
 -- Assumes nothing.
 use mathlib.Core.Path.{◌≡◌, refl, ap, ◌∙◌}
 use mathlib.Core.Bool.{Bool, true, false, ◌||◌}
@@ -6,17 +6,28 @@ use mathlib.Core.List.{List}
 use Prim.Native.Nat.{ℕ, ◌+◌, ◌*◌, ◌-◌, ◌/◌, ◌%◌, ◌<◌, ◌≤◌}
 use native.Mathlib.Nat.{div-add-mod'}
 use native.Mathlib.Omega.{arith}
-use borrow.Author.Tests.{lt-ltb, le-leb, ltb-true, leb-true}
+use borrow.Author.Tests.{lt-ltb, le-ltb, le-leb, lt-leb, ltb-true, leb-true}
 use lib.Arith.{digits_div, digits_mod}
 use lib.Dec.{leb, ltb}
 use lib.ListN.{get_or}
 use Rattle.line.specs.Cells.{choose}
 use Rattle.line.proofs.Cells.{by_lt}
 use Rattle.line.proofs.Marks.{both_ways, or_left, or_right, or_cases, and_both, and_parts}
+use Rattle.refusal.proofs.Made.{Made}
 use Rattle.region.specs.Region.{in_box}
 use Rattle.region.specs.Drawing.{within, Filled, Drawn}
 
 -- ---- a run of bytes
+pub made_filled : {b at n : ℕ} {l l' : List ℕ} → Made 0 (λ _. b) at (at + n) l l' → Filled b at n l l'
+made_filled {b} {at} {n} m = record {
+  size = m.size;
+  cell = λ i. by_lt i at
+      (λ lt. rw (lt-leb at i lt) (m.below i lt))
+      (λ ge. by_lt i (at + n)
+      (λ lt. rw (le-leb at i ge, lt-ltb i (at + n) lt) (m.on i lt ge))
+      (λ past. rw (le-leb at i ge, le-ltb i (at + n) past) (m.above i past)));
+}
+
 pub within_intro : (at n i : ℕ) → at ≤ i → i < at + n → within at n i ≡ true
 within_intro at n i p q = and_both _ _ (le-leb at i p) (lt-ltb i (at + n) q)
 
@@ -68,6 +79,9 @@ module _ (x y w W : ℕ) (fit : x + w ≤ W) (k i : ℕ) where
       (λ ge. or_left _ _ (in_row e ge)))
 
 module _ {x y w W : ℕ} {l : List ℕ} where
+  pub drawn_none : Drawn x y w 0 W l l
+  drawn_none = record { size = refl; cell = λ i. kept (in_box x y w 0 (i % W) (i / W)) 1 (get_or l i 0) (λ e. let p = box_elim x y w 0 (i % W) (i / W) e in omega arith) }
+
   pub drawn_more : {n : ℕ} {l' l'' : List ℕ} → x + w ≤ W → y ≤ n → Drawn x y w (n - y) W l l' → Filled 1 (n * W + x) w l' l'' → Drawn x y w (n + 1 - y) W l l''
   drawn_more {n} fit from p q =
       let k : ℕ = n - y in

@@ -125,7 +125,7 @@ module _ (x y w W H : ℕ) where
         (λ e. let p = box_elim x y w 0 (source W (i % W)) (source H (i / W)) (sym (box_placed 0 i h) ∙ e) in omega arith);
   }
 
-  placed_more : {l l₁ l₂ l₃ : List ℕ} (k : ℕ) → x + w ≤ W → y + k < H → DrawnPlaced x y w k W H l l₁
+  pub placed_more : {l l₁ l₂ l₃ : List ℕ} (k : ℕ) → x + w ≤ W → y + k < H → DrawnPlaced x y w k W H l l₁
       → Filled 1 (woven H (λ i. i) (y + k) * W + (x + 1) / 2) ((x + w + 1) / 2 - (x + 1) / 2) l₁ l₂
       → Filled 1 (woven H (λ i. i) (y + k) * W + (W - W / 2) + x / 2) ((x + w) / 2 - x / 2) l₂ l₃ → DrawnPlaced x y w (k + 1) W H l l₃
   placed_more {l} {l₁} {l₂} {l₃} k fit low p f g =
