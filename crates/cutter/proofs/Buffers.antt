@@ -1,15 +1,22 @@
 -- A buffer whose first bytes were changed: what they are now, and behind them what it held. Assumes nothing.
-use mathlib.Core.Path.{◌≡◌, ◌∙◌}
+use mathlib.Core.Path.{◌≡◌, sym, ◌∙◌}
 use mathlib.Core.List.{List, ◌++◌, append_assoc}
 use Prim.Native.Nat.{ℕ, ◌-◌, ◌≤◌}
 use native.Mathlib.Omega.{arith}
 use lib.ListN.{length, take, drop, length-append, length-drop}
-use lib.Seq.{length-take-le, drop-append-le}
+use lib.Seq.{length-take-le, get_or-take, drop-append-le}
+use Rattle.transfer.specs.Copied.{Copied}
+use Rattle.transfer.proofs.Copies.{front_cell}
 use Rattle.header.specs.Fields.{bytes_of}
 use Rattle.header.specs.Writing.{Laid}
 use Rattle.header.specs.Arrival.{cut_to}
 use Rattle.header.proofs.Fields.{bytes_length}
-use Rattle.header.proofs.Writing.{laid_front}
+use Rattle.header.proofs.Writing.{in_front, laid_front}
+
+-- the first n bytes of s, copied
+pub copied : (s l : List ℕ) {m : List ℕ} (n : ℕ) → n ≤ length s → n ≤ length l → Copied 0 s 0 0 n l m → m ≡ take n s ++ drop n l
+copied s l n h room c =
+    in_front (take n s) l n (length-take-le n s h) room c.size (λ i b. front_cell 0 s n c i b ∙ sym (get_or-take n s i 0 b)) (λ i b. c.above i (omega arith))
 
 -- the buffer keeps its length where its first n bytes are written
 pub front_size : (y l : List ℕ) (n : ℕ) → length y ≡ length (take n l) → n ≤ length l → length (y ++ drop n l) ≡ length l

@@ -48,7 +48,7 @@ fn cut_read(
     if out.len() < wanted {
         return Err(Refusal::Room(wanted));
     }
-    out[..wanted].copy_from_slice(&stream[..wanted]);
+    transfer::copy(stream, out, 0, 0, wanted);
     header::put_four(out, 0, wanted - 4);
     Ok(wanted)
 }

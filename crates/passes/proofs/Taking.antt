@@ -23,7 +23,7 @@ use Rattle.grid.specs.Placed.{woven}
 use Rattle.grid.proofs.Parted.{woven_even, woven_odd, parted_even, parted_odd}
 use Rattle.lifting.specs.Parts.{lane, Parts, Bounded, Both}
 use Rattle.lifting.specs.Lines.{lows_of, highs_of}
-use Rattle.transfer.specs.Copied.{Copied}
+use Rattle.transfer.specs.Copied.{Room, Copied}
 use Rattle.transfer.specs.Moved.{Twofold}
 use Rattle.transfer.specs.Parting.{PartedStrip}
 use Rattle.passes.specs.Passes.{Takes}
@@ -75,8 +75,15 @@ module _ {l : List ℤ} {s t w c : ℕ} {q : List ℤ} (h : Halved l s t w c q) 
       }
 
 -- ---- a row
-pub row_end : {l : List ℤ} {at : ℕ} (w : ℕ) → InBuffer l at 1 w 1 → 0 < w → at + w ≤ length l
-row_end w i some = omega (arith, i.place (w - 1) 0 (omega arith) (omega arith))
+module _ {l : List ℤ} {at : ℕ} (w : ℕ) (i : InBuffer l at 1 w 1) where
+  pub row_out : {q : List ℤ} → w ≤ length q → Room l at 0 w q
+  row_out h = record { source = λ k r. omega (arith, i.place k 0 r (omega arith)); target = λ k r. omega arith }
+
+  pub row_back_room : {q : List ℤ} → w ≤ length q → Room q 0 at w l
+  row_back_room h = record { source = λ k r. omega arith; target = λ k r. omega (arith, i.place k 0 r (omega arith)) }
+
+  pub row_end : 0 < w → at + w ≤ length l
+  row_end some = omega (arith, i.place (w - 1) 0 (omega arith) (omega arith))
 
 pub row_halved : (l : List ℤ) (at w : ℕ) {q q' : List ℤ}
     → Twofold (pos 0) (λ k. get_or l (at + 2 * k) (pos 0)) (λ k. get_or l (at + 2 * k + 1) (pos 0)) (λ k. 0 + k) (λ k. low_side w + k) (low_side w) (w / 2) q q' → Halved l at 1 w 1 q'

@@ -38,7 +38,7 @@ fn row(kernel: Kernel, l: &mut [i32], q: &mut [i32], at: usize, w: usize)
     };
     transfer::numbers::part(l, q, at, 0, lows, w);
     lifting::forward(kernel, q, parts);
-    l[at..at + w].copy_from_slice(&q[..w]);
+    transfer::copy(q, l, 0, at, w);
 }
 
 // Takes such a row back.
@@ -58,7 +58,7 @@ fn row_back(kernel: Kernel, l: &mut [i32], q: &mut [i32], at: usize, w: usize)
         lows,
         highs,
     };
-    q[..w].copy_from_slice(&l[at..at + w]);
+    transfer::copy(l, q, at, 0, w);
     lifting::back(kernel, q, parts);
     transfer::numbers::weave(q, l, 0, lows, at, w);
 }

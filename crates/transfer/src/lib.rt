@@ -3,11 +3,23 @@
 
 ghost use Rattle.std.specs.Prelude.{◌≡◌, ◌+◌, ◌*◌, ◌≤◌, length};
 ghost use Rattle.grid.specs.Buffer.{InBuffer, Put};
+ghost use Rattle.transfer.specs.Copied.{Room, Copied};
 ghost use Rattle.transfer.specs.Moved.{Rows, Moved};
 ghost use Rattle.transfer.specs.Parting.{source_at, PartedStrip};
 
 pub mod bytes;
 pub mod numbers;
+
+// Copies n cells of src, from `from` on, to dst, from `at` on. By index and no `copy_from_slice`: that comes to a call of `memmove`, which C's header
+// does not ask for.
+pub fn copy<T: Copy>(src: &[T], dst: &mut [T], from: usize, at: usize, n: usize)
+    requires { Room src.now from at n dst.old }
+    ensures { (o : T) → Copied o src.now from at n dst.old dst.new }
+{
+    for k in 0..n {
+        dst[at + k] = src[from + k];
+    }
+}
 
 // Copies m rows of n cells, which begin step apart in src and stride apart in dst.
 pub fn copy_rows<T: Copy>(
@@ -27,7 +39,7 @@ pub fn copy_rows<T: Copy>(
     for i in 0..m {
         let begin = from + i * step;
         let to = at + i * stride;
-        dst[to..to + n].copy_from_slice(&src[begin..begin + n]);
+        copy(src, dst, begin, to, n);
     }
 }
 
@@ -52,7 +64,7 @@ pub fn take<T: Copy>(buf: &[T], strip: &mut [T], start: usize, step: usize, w: u
     for n in 0..w {
         let begin = start + source(n, low) * step;
         let to = n * lanes;
-        strip[to..to + lanes].copy_from_slice(&buf[begin..begin + lanes]);
+        copy(buf, strip, begin, to, lanes);
     }
 }
 

@@ -1,16 +1,15 @@
 -- `cutter::cut_read` cuts a stream that was read, or refuses. Assumes nothing.
 use mathlib.Core.Path.{refl, ap}
-use mathlib.Core.List.{◌++◌}
 use Prim.Native.Nat.{◌≤◌}
 use native.Mathlib.Omega.{arith}
-use lib.ListN.{length, drop}
+use lib.ListN.{length}
 use borrow.Author.Rules.{rules}
 use borrow.Author.Tests.{ltb-true, ltb-false}
 use Rattle.refusal.specs.declared.Refusal.TheVariants.{Cut}
 use Rattle.header.proofs.Parts.{good_small}
 use Rattle.decoder.specs.Answers.{is_whole, place_of}
 use Rattle.cutter.proofs.Answered.{refused, too_short, done, not_whole, front_most, below_mark, above_stream, no_room, passed}
-use Rattle.cutter.proofs.Buffers.{front_size, cut_laid}
+use Rattle.cutter.proofs.Buffers.{copied, cut_laid}
 use Rattle.cutter.proofs.cut_read.Goals as goal
 
 pub returns-in_default : goal.returns-in_default
@@ -31,10 +30,10 @@ returns-then-out-wanted c = let at_mark = ltb-false _ _ c.in_ok-refuse.ensures i
 pub put_four-requires : goal.put_four-requires
 put_four-requires c = let at_mark = ltb-false _ _ c.in_ok-refuse.ensures in let inside = ltb-false _ _ c.in_ok-refuse-2.ensures in
     let long : 14 ≤ c.args.wanted = omega (arith, ap place_of c.in-Some.is, at_mark, front_most c.requires (ap is_whole c.in-Some.is)) in
-    (omega (arith, front_size _ c.args.out.now c.args.wanted c.copy_from_slice.auto.self (omega arith), long), omega (arith, inside, good_small c.args.stream.now (λ i. omega (arith, c.type_inv.stream i)) c.requires.header))
+    (omega (arith, c.copy.auto.dst, long), omega (arith, inside, good_small c.args.stream.now (λ i. omega (arith, c.type_inv.stream i)) c.requires.header))
 
 pub returns : goal.returns
 returns c = let at_mark = ltb-false _ _ c.in_ok-refuse.ensures in let inside = ltb-false _ _ c.in_ok-refuse-2.ensures in
     let long : 14 ≤ c.args.wanted = omega (arith, ap place_of c.in-Some.is, at_mark, front_most c.requires (ap is_whole c.in-Some.is)) in
     done (passed c.requires _ _ (ap is_whole c.in-Some.is) (omega (arith, ap place_of c.in-Some.is, at_mark)) inside (omega arith))
-    (cut_laid c.args.stream.now c.args.out.now c.args.wanted (omega (arith, long)) inside (omega arith) (ap (λ y. y ++ drop c.args.wanted c.args.out.now) c.copy_from_slice.ensures.after) c.put_four.ensures)
+    (cut_laid c.args.stream.now c.args.out.now c.args.wanted (omega (arith, long)) inside (omega arith) (copied c.args.stream.now c.args.out.now c.args.wanted inside (omega arith) (c.copy.ensures 0)) c.put_four.ensures)

@@ -2,8 +2,7 @@
 use native.Mathlib.Omega.{arith}
 use lib.IntN.{pos}
 use Rattle.line.proofs.Cells.{low_left}
-use Rattle.transfer.proofs.Copies.{front_copied}
-use Rattle.passes.proofs.Taking.{line_parts, row_end, row_halved, row_bounded, row_forward}
+use Rattle.passes.proofs.Taking.{line_parts, row_back_room, row_halved, row_bounded, row_forward}
 use Rattle.passes.proofs.row.Goals as goal
 
 pub forward-requires : goal.forward-requires
@@ -16,7 +15,10 @@ forward-requires c = let a = c.args in let p = rw (low_left a.w) at (c.part.ensu
       bounded_2 = b.1;
     }
 
+pub copy-requires : goal.copy-requires
+copy-requires c = let a = c.args in let p = rw (low_left a.w) at (c.part.ensures (λ z. z) (λ x z e. e) (pos 0)) in let f = rw (low_left a.w) at c.forward.ensures in
+    row_back_room a.w c.requires.in_buffer (omega (arith, c.requires.w_nonzero, f.size, p.size))
+
 pub returns : goal.returns
 returns c = let a = c.args in let p = rw (low_left a.w) at (c.part.ensures (λ z. z) (λ x z e. e) (pos 0)) in let f = rw (low_left a.w) at c.forward.ensures in
-    row_forward a.kernel a.l.now a.at a.w (row_halved a.l.now a.at a.w p) f
-    (front_copied (pos 0) a.at a.w (omega (arith, c.requires.w_nonzero, f.size, p.size)) (row_end a.w c.requires.in_buffer c.requires.w_nonzero.0) c.copy_from_slice.ensures.after)
+    row_forward a.kernel a.l.now a.at a.w (row_halved a.l.now a.at a.w p) f (c.copy.ensures (pos 0))
