@@ -107,11 +107,11 @@ module _ (x : Pass) (Z : ℕ → ℤ) where
   run_start i = record { value = refl; many = refl }
 
   -- ---- one coefficient more: its digits as a number a, w of them
-  pub run_next : {number n a w : ℕ} (i k : ℕ) → number < 2 ^ 30 → Digits (run x Z i k) number n → a ≡ extended 0 (choose (x.on (i + k)) (code x.plane (Z (i + k))) []) → w ≡ length (choose (x.on (i + k)) (code x.plane (Z (i + k))) [])
-      → Digits (run x Z i (k + 1)) (number * 2 ^ w % 2 ^ 32 + a) (n + w)
-  run_next {number} {w = w} i k h s e f =
+  pub run_next : {number n a w : ℕ} (i k b : ℕ) → number < 2 ^ b → Digits (run x Z i k) number n → a ≡ extended 0 (choose (x.on (i + k)) (code x.plane (Z (i + k))) []) → w ≡ length (choose (x.on (i + k)) (code x.plane (Z (i + k))) [])
+      → Digits (run x Z i (k + 1)) (number * 2 ^ w % 2 ^ (b + 2) + a) (n + w)
+  run_next {number} {w = w} i k b h s e f =
       let new = choose (x.on (i + k)) (code x.plane (Z (i + k))) [] in let g = given_length (x.on (i + k)) x.plane (Z (i + k)) in
-      let d : number * 2 ^ w % 2 ^ 32 ≡ number * 2 ^ w = shl_exact 30 w 32 h (omega arith) in
+      let d : number * 2 ^ w % 2 ^ (b + 2) ≡ number * 2 ^ w = shl_exact b w (b + 2) h (omega arith) in
       rw (run_more i k) (digits_more new s (rw (d, e, f) (sym (extended_behind number new))) f)
 
   -- ---- bounds
