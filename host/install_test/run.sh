@@ -82,6 +82,8 @@ installed() {
         expect "$time: the files" same "$(listed place)" "$five"
     done
     export PKG_CONFIG_PATH="$folder/place/lib/pkgconfig"
+    expect "what the library needs from outside" same \
+        "$(nm -u place/lib/libdhiirqobaal.a | awk '$1 == "U" { print $2 }' | sort -u | tr '\n' ' ')" 'memcpy memset '
     expect "the header" cmp "$root/host/include/dhiirqobaal.h" place/include/dhiirqobaal.h
     expect "the man page" same "$(man -M place/share/man -w dhiirqobaal)" "$folder/place/share/man/man1/dhiirqobaal.1"
     version=$(pkg-config --modversion dhiirqobaal)
