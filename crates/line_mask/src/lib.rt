@@ -111,7 +111,7 @@ pub fn mask(kernel: Kernel, marks: &mut [u8], lines: Lines)
     );
 }
 
-// The same of numbers, which come in registers: a struct is handed on in memory, and in rows of one mark that costs two fifths of the time.
+// The same of numbers, most of which come in registers: a struct is handed on in memory, and rows of one mark then take up to 1.4 times as long.
 fn mask_parts(
     kernel: Kernel,
     marks: &mut [u8],
