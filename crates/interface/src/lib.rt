@@ -42,13 +42,9 @@ fn give(values: &[u64], at: usize, results: &mut [u64])
     requires { at + length values.now < 2 ^ 64 }
     ensures { GivenAt at values.now results.old results.new }
 {
-    // One by one: copied as a slice, one number or two come to a call of `memcpy`.
-    for (i, value) in values.iter().enumerate() {
-        if results.len() <= at + i {
-            continue;
-        }
-        results[at + i] = *value;
-    }
+    let from = at.min(results.len());
+    let n = values.len().min(results.len() - from);
+    results[from..from + n].copy_from_slice(&values[..n]);
 }
 
 #[unsafe(no_mangle)]
